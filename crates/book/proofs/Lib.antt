@@ -1,0 +1,5 @@
+pub mod Steps
+pub mod Clears
+pub mod Least
+pub mod Multiples
+pub mod Searches
