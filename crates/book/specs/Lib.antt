@@ -5,3 +5,5 @@ pub mod Places
 pub mod Refusals
 pub mod Moves
 pub mod Drafts
+pub mod Jobs
+pub mod Found

@@ -1,5 +1,6 @@
 //! A book of a board's periodic tasks: a draft that is edited, and the plan it issues, which answers questions.
 pub mod drafts;
+pub mod jobs;
 pub mod refusals;
 pub mod tables;
 pub mod tasks;
