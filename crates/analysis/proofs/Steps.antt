@@ -2,18 +2,20 @@
 use mathlib.Core.Path.{_≡_, refl, sym, ap, _∙_}
 use mathlib.Core.List.{List}
 use mathlib.Core.Bool.{Bool, true, false, cond}
-use Prim.Native.Nat.{ℕ, suc, _+_, _-_, _≤_, _<_}
+use Prim.Native.Nat.{ℕ, zero, suc, _+_, _-_, _≤_, _<_, min}
+use native.Mathlib.Nat.{add-zero, add-suc, add-assoc}
 use native.Mathlib.Omega.{arith}
 use mathlib.Core.Logic.{_⊎_, inl, inr, _≢_}
 use lib.Dec.{leb, ltb, eqb}
 use lib.ListN.{length, take, getD, set}
 use Rattle.std.proofs.shelf.Lists.{getD-set-same, getD-set-other}
-use Rattle.std.proofs.shelf.Tests.{cases-eq}
+use Rattle.std.proofs.shelf.Tests.{cases-eq, cond-true, lt-ltb}
 use Rattle.std.proofs.shelf.Ways.{tells}
 use Rattle.std.proofs.shelf.Sums.{folded-more}
-use Rattle.analysis.specs.Semiring.{Ops, Laws}
+use Rattle.theory.specs.Semiring.{Ops, Laws}
 use Rattle.analysis.specs.declared.pair.Pair.{Pair}
-use Rattle.analysis.specs.Cells.{cells, joint, span, over, later, passed, total, share, arriving, beyond, spreading, scaled, added}
+use Rattle.analysis.specs.Cells.{cells, span, tail, over, later, passed, total, share, arriving, beyond, added, tailed, cleared}
+use Rattle.analysis.specs.Inner.{joint, spreading, scaled}
 
 module _ {K : Type 0} (o : Ops K) where
   -- one cell more
@@ -70,9 +72,19 @@ module _ {K : Type 0} where
     pub later-joint : (g : ℕ) (f h : ℕ → K) (x : ℕ) → later o g (joint f h x) x ≡ later o g h x
     later-joint g f h x = ap (λ v. cond (ltb (x + g) 256) v (o .nought)) (joint-above f h x (x + g) (omega arith))
 
-    pub passed-all : (g : ℕ) (h : ℕ → K) (x n : ℕ) (y : K) → x ≡ 256 → n ≡ g + 1 → y ≡ span o h 0 n → put (joint (later o g h) h x) 0 y ≡ passed o g h
+    pub passed-all : (g : ℕ) (h : ℕ → K) (x n : ℕ) (y : K) → x ≡ 256 → g ≤ 255 → n ≡ g + 1 → y ≡ span o h 0 n → put (joint (later o g h) h x) 0 y ≡ passed o g h
     unfolding passed
-    passed-all g h x n y all long e = same-cells (λ k. grind (arith, tells))
+    passed-all g h x n y all most long e =
+        let m : n ≡ min g 255 + 1 = omega arith in
+        let e′ : y ≡ span o h 0 (min g 255 + 1) = e ∙ ap (span o h 0) m in
+        same-cells (λ k. grind (arith, tells))
+
+    -- once 255 ticks have passed, more make no difference
+    pub passed-most : (g : ℕ) (h : ℕ → K) → passed o (min g 255) h ≡ passed o g h
+    unfolding passed
+    passed-most g h =
+        let m : min (min g 255) 255 ≡ min g 255 = omega arith in
+        same-cells (λ k. ap (λ n. cond (ltb k 256) (cond (eqb k 0) (span o h 0 (n + 1)) (later o (min g 255) h k)) (h k)) m ∙ grind (arith, tells))
 
     -- what stands at the time x and below decides what comes to x
     pub arriving-same : (low : ℕ) (f h : ℕ → K) (table : List Pair) (x : ℕ) → ((k : ℕ) → k ≤ x → f k ≡ h k) → arriving o low f table x ≡ arriving o low h table x
@@ -93,3 +105,41 @@ module _ {K : Type 0} where
 module _ {K : Type 0} {o : Ops K} {least : K → K → Type 0} (laws : Laws o least) where
   pub sum-nought-right : (x : K) → o .sum x (o .nought) ≡ x
   sum-nought-right x = laws .sum-comm x (o .nought) ∙ laws .sum-nought x
+
+-- the tails of a sheet
+module _ {K : Type 0} {o : Ops K} {least : K → K → Type 0} (laws : Laws o least) where
+  pub span-split : (f : ℕ → K) (a m n : ℕ) → span o f a (m + n) ≡ o .sum (span o f a m) (span o f (a + m) n)
+  span-split f a m zero = ap (span o f a) (add-zero m) ∙ sym (sum-nought-right laws (span o f a m))
+  span-split f a m (suc n) =
+      ap (span o f a) (add-suc m n)
+      ∙ ap (λ v. o .sum v (f (a + (m + n)))) (span-split f a m n)
+      ∙ laws .sum-assoc (span o f a m) (span o f (a + m) n) (f (a + (m + n)))
+      ∙ ap (λ k. o .sum (span o f a m) (o .sum (span o f (a + m) n) (f k))) (sym (add-assoc a m n))
+
+  -- the first cell apart
+  pub span-first : (f : ℕ → K) (a n : ℕ) → span o f a (1 + n) ≡ o .sum (f a) (span o f (a + 1) n)
+  span-first f a n =
+      span-split f a 1 n ∙ ap (λ v. o .sum v (span o f (a + 1) n)) (laws .sum-nought (f (a + 0)) ∙ ap f (add-zero a))
+
+  pub tail-step : (f : ℕ → K) (x : ℕ) → x < 257 → tail o f x ≡ o .sum (f x) (tail o f (x + 1))
+  tail-step f x l = let e : 257 - x ≡ 1 + (257 - (x + 1)) = omega arith in ap (span o f x) e ∙ span-first f x (257 - (x + 1))
+
+  pub tailed-none : (h : ℕ → K) → h ≡ joint h (tailed o h) 256
+  unfolding tailed
+  tailed-none h = let e : tail o h 256 ≡ h 256 = laws .sum-nought (h 256) in same-cells (λ k. at k (cases-eq k 256) e)
+    where
+      at : (k : ℕ) → (k ≡ 256) ⊎ (k ≡ 256 → ⊥) → tail o h 256 ≡ h 256 → h k ≡ joint h (tailed o h) 256 k
+      at k (inl e) r = rw e (sym r)
+      at k (inr n) r = grind (arith, tells)
+
+  -- one tail more, from the last one down
+  pub tailed-more : (h : ℕ → K) (x : ℕ) → 0 < x → x ≤ 256 → tailed o h (x - 1) ≡ o .sum (h (x - 1)) (tailed o h x)
+  unfolding tailed
+  tailed-more h x p l =
+      cond-true (ltb (x - 1) 257) _ _ (lt-ltb (x - 1) 257 (omega arith)) ∙ tail-step h (x - 1) (omega arith)
+      ∙ ap (o .sum (h (x - 1))) (ap (tail o h) (let e : x - 1 + 1 ≡ x = omega arith in e) ∙ sym (cond-true (ltb x 257) _ _ (lt-ltb x 257 (omega arith))))
+
+module _ {K : Type 0} (o : Ops K) where
+  pub cleared-all : (h : ℕ → K) (x : ℕ) → x ≡ 257 → joint (λ _. o .nought) h x ≡ cleared o h
+  unfolding cleared
+  cleared-all h x e = ap (joint (λ _. o .nought) h) e

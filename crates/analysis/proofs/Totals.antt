@@ -4,8 +4,9 @@ use mathlib.Core.List.{List, [], _∷_}
 use Prim.Native.Nat.{ℕ, _+_, _-_, _≤_, max}
 use native.Mathlib.Omega.{arith}
 use Rattle.std.specs.Iters.{folded}
-use Rattle.analysis.specs.Semiring.{Ops, Laws}
-use Rattle.analysis.specs.Cells.{over, span, first, fresh, beyond, excess, overdue, total}
+use Rattle.theory.specs.Semiring.{Ops, Laws}
+use Rattle.analysis.specs.Cells.{over, span, first, fresh, beyond, total}
+use Rattle.analysis.specs.Inner.{excess, overdue}
 use Rattle.analysis.specs.declared.pair.Pair.{Pair}
 use Rattle.analysis.proofs.Steps.{span-more}
 

@@ -5,7 +5,7 @@ use native.Mathlib.Nat.{mul-comm, one-mul, zero-mul}
 use native.Mathlib.Bridge.{le-prop}
 use native.Mathlib.Omega.{arith}
 use lib.Dec.{eqb}
-use Rattle.analysis.specs.Semiring.{Ops, Laws}
+use Rattle.theory.specs.Semiring.{Ops, Laws}
 use Rattle.analysis.specs.Stopped.{stop, stop-mul-assoc, stop-mul-add, stop-mul-le}
 use Rattle.analysis.specs.declared.count.Count.{Count}
 

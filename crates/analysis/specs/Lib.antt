@@ -1,7 +1,10 @@
-pub mod Semiring
 pub mod Stopped
 pub mod Counts
-pub mod Heights
+pub mod Heaviests
 pub mod Possibles
 pub mod Cells
+pub mod Rounding
+pub mod Refusals
+pub mod Sheets
+pub mod Inner
 pub mod Ranks

@@ -1,74 +1,94 @@
--- Possibility as a weight. Assumes nothing.
-use mathlib.Core.Path.{_≡_, refl, ap}
-use mathlib.Core.Bool.{Bool, true, false, _||_, _&&_}
-use Rattle.std.proofs.shelf.Tests.{false≢true}
-use Rattle.analysis.specs.Semiring.{Ops, Laws}
+-- Possibility as a weight: the sum is "or", the product is "and", and every table weight is possible. Assumes nothing.
+use mathlib.Core.Path.{_≡_, refl}
+use mathlib.Core.Bool.{false}
+use Rattle.theory.specs.Semiring.{Ops, Laws}
 use Rattle.analysis.specs.declared.possible.Possible.{Possible}
+use Rattle.analysis.specs.declared.possible.Possible.the-variants.{No, Yes}
 
-abbrev of-holds : Bool → Possible
-of-holds b = record { holds = b }
+abbrev pub or : Possible → Possible → Possible
+or No y = y
+or Yes y = Yes
+
+abbrev pub and : Possible → Possible → Possible
+and No y = No
+and Yes y = y
 
 abbrev pub possible-ops : Ops Possible
 possible-ops = record {
-  nought = of-holds false;
-  unit = of-holds true;
-  sum = λ x y. of-holds (x .holds || y .holds);
-  product = λ x y. of-holds (x .holds && y .holds);
-  read = λ _. of-holds true;
+  nought = No;
+  unit = Yes;
+  sum = or;
+  product = and;
+  read = λ _. Yes;
   top = λ _. false;
 }
 
--- what y holds, x holds
+-- yes is at least no
 abbrev pub possible-least : Possible → Possible → Type 0
-possible-least x y = y .holds ≡ true → x .holds ≡ true
+possible-least x No = Unit {0}
+possible-least No Yes = ⊥
+possible-least Yes Yes = Unit {0}
 
-or-assoc : (a b c : Bool) → ((a || b) || c) ≡ (a || (b || c))
-or-assoc true b c = refl
-or-assoc false b c = refl
+or-assoc : (x y z : Possible) → or (or x y) z ≡ or x (or y z)
+or-assoc No y z = refl
+or-assoc Yes y z = refl
 
-or-comm : (a b : Bool) → (a || b) ≡ (b || a)
-or-comm true true = refl
-or-comm true false = refl
-or-comm false true = refl
-or-comm false false = refl
+or-comm : (x y : Possible) → or x y ≡ or y x
+or-comm No No = refl
+or-comm No Yes = refl
+or-comm Yes No = refl
+or-comm Yes Yes = refl
 
-and-assoc : (a b c : Bool) → ((a && b) && c) ≡ (a && (b && c))
-and-assoc true b c = refl
-and-assoc false b c = refl
+and-assoc : (x y z : Possible) → and (and x y) z ≡ and x (and y z)
+and-assoc No y z = refl
+and-assoc Yes y z = refl
 
-and-comm : (a b : Bool) → (a && b) ≡ (b && a)
-and-comm true true = refl
-and-comm true false = refl
-and-comm false true = refl
-and-comm false false = refl
+and-comm : (x y : Possible) → and x y ≡ and y x
+and-comm No No = refl
+and-comm No Yes = refl
+and-comm Yes No = refl
+and-comm Yes Yes = refl
 
-and-or : (a b c : Bool) → (a && (b || c)) ≡ ((a && b) || (a && c))
-and-or true b c = refl
-and-or false b c = refl
+and-or : (x y z : Possible) → and x (or y z) ≡ or (and x y) (and x z)
+and-or No y z = refl
+and-or Yes y z = refl
 
-or-least : (a b c d : Bool) → (b ≡ true → a ≡ true) → (d ≡ true → c ≡ true) → (b || d) ≡ true → (a || c) ≡ true
-or-least true b c d h k e = refl
-or-least false true c d h k e = ap (λ v. v || c) (h refl)
-or-least false false c d h k e = k e
+least-refl : (x : Possible) → possible-least x x
+least-refl No = tt
+least-refl Yes = tt
 
-and-least : (a b c d : Bool) → (b ≡ true → a ≡ true) → (d ≡ true → c ≡ true) → (b && d) ≡ true → (a && c) ≡ true
-and-least true true c d h k e = k e
-and-least false true c d h k e = h refl
-and-least true false c d h k e = absurd (false≢true e)
-and-least false false c d h k e = e
+least-trans : (x y z : Possible) → possible-least x y → possible-least y z → possible-least x z
+least-trans No y No h k = tt
+least-trans Yes y No h k = tt
+least-trans No No Yes h k = k
+least-trans No Yes Yes h k = h
+least-trans Yes y Yes h k = tt
+
+least-or : (x y v w : Possible) → possible-least x y → possible-least v w → possible-least (or x v) (or y w)
+least-or Yes No v No h k = tt
+least-or Yes No v Yes h k = tt
+least-or Yes Yes v w h k = tt
+least-or No No v w h k = k
+least-or No Yes v w h k = absurd h
+
+least-and : (x y v w : Possible) → possible-least x y → possible-least v w → possible-least (and x v) (and y w)
+least-and No No v w h k = tt
+least-and Yes No v w h k = tt
+least-and No Yes v w h k = absurd h
+least-and Yes Yes v w h k = k
 
 pub possible-laws : Laws possible-ops possible-least
 possible-laws = record {
-  sum-assoc = λ x y z. ap of-holds (or-assoc (x .holds) (y .holds) (z .holds));
-  sum-comm = λ x y. ap of-holds (or-comm (x .holds) (y .holds));
+  sum-assoc = or-assoc;
+  sum-comm = or-comm;
   sum-nought = λ x. refl;
-  product-assoc = λ x y z. ap of-holds (and-assoc (x .holds) (y .holds) (z .holds));
-  product-comm = λ x y. ap of-holds (and-comm (x .holds) (y .holds));
+  product-assoc = and-assoc;
+  product-comm = and-comm;
   product-unit = λ x. refl;
   product-nought = λ x. refl;
-  distributive = λ x y z. ap of-holds (and-or (x .holds) (y .holds) (z .holds));
-  least-refl = λ x h. h;
-  least-trans = λ x y z h k e. h (k e);
-  least-sum = λ x y v w. or-least (x .holds) (y .holds) (v .holds) (w .holds);
-  least-product = λ x y v w. and-least (x .holds) (y .holds) (v .holds) (w .holds);
+  distributive = and-or;
+  least-refl = least-refl;
+  least-trans = least-trans;
+  least-sum = least-or;
+  least-product = least-and;
 }

@@ -1,13 +1,17 @@
 ghost use mathlib.Core.Path.{_≡_};
 ghost use Prim.Native.Nat.{_+_, _<_, _≤_};
 ghost use lib.ListN.{length};
-ghost use Rattle.analysis.specs.Cells.{cells, total, share, arriving, excess, overdue, spreading, scaled, added};
+ghost use Rattle.analysis.specs.Cells.{cells, total, share, arriving, added};
+ghost use Rattle.analysis.specs.Inner.{excess, overdue, spreading, scaled};
+ghost use Rattle.analysis.specs.Sheets.{Done};
 use super::pair::Pair;
+use super::sheet_refusal::SheetRefusal;
 use super::spans::gathered;
-use super::weight::Weight;
+use super::spans::long_enough;
+use theory::Weight;
 
-// The sum of the table's weights.
-pub fn whole<W: Weight>(table: &[Pair]) -> W
+/// The sum of the table's weights.
+pub fn total<W: Weight>(table: &[Pair]) -> W
     ensures { λ r. ⌜ r ≡ total ops (now (table .entry)) ⌝ }
 {
     let mut all = W::nought();
@@ -90,22 +94,24 @@ fn add_above<W: Weight>(sheet: &mut [W], low: usize, table: &[Pair])
 {
     let beyond = overrun(sheet, low, table);
     spread(sheet, low, table);
-    scale(sheet, low, whole(table));
+    scale(sheet, low, total(table));
     sheet[256] = beyond;
 }
 
-// Adds the table's times to each time of the sheet.
-pub fn add<W: Weight>(sheet: &mut [W], table: &[Pair])
-    requires { ⌜ 257 ≤ length (now sheet) ⌝ }
-    ensures { λ _. ⌜ cells ops (now (sheet .exit)) ≡ added ops 0 (cells ops (now (sheet .entry))) (now (table .entry)) ⌝ }
+/// Adds the table's times to each time of the sheet.
+pub fn add<W: Weight>(sheet: &mut [W], table: &[Pair]) -> Result<(), SheetRefusal>
+    ensures { λ r. ⌜ Done ops r (now (sheet .entry)) (now (sheet .exit)) (λ f. added ops 0 f (now (table .entry))) ⌝ }
 {
+    long_enough(sheet)?;
     add_above(sheet, 0, table);
+    Ok(())
 }
 
-// Adds the table's times to the times above `r`, and multiplies the others by the table's total.
-pub fn add_from<W: Weight>(sheet: &mut [W], r: u8, table: &[Pair])
-    requires { ⌜ 257 ≤ length (now sheet) ⌝ }
-    ensures { λ _. ⌜ cells ops (now (sheet .exit)) ≡ added ops (r + 1) (cells ops (now (sheet .entry))) (now (table .entry)) ⌝ }
+/// Adds the table's times to the times above `r`, and multiplies the others by the table's total.
+pub fn add_from<W: Weight>(sheet: &mut [W], r: u8, table: &[Pair]) -> Result<(), SheetRefusal>
+    ensures { λ answer. ⌜ Done ops answer (now (sheet .entry)) (now (sheet .exit)) (λ f. added ops (r + 1) f (now (table .entry))) ⌝ }
 {
+    long_enough(sheet)?;
     add_above(sheet, r as usize + 1, table);
+    Ok(())
 }

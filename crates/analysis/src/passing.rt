@@ -2,8 +2,11 @@ ghost use mathlib.Core.Path.{_≡_};
 ghost use Prim.Native.Nat.{_<_, _≤_};
 ghost use lib.ListN.{length};
 ghost use Rattle.analysis.specs.Cells.{cells, passed, later};
+ghost use Rattle.analysis.specs.Sheets.{Done};
+use super::sheet_refusal::SheetRefusal;
 use super::spans::gathered;
-use super::weight::Weight;
+use super::spans::long_enough;
+use theory::Weight;
 
 // What stands at the time `x`, above 0, once `g` has passed.
 fn moved<W: Weight>(sheet: &[W], x: usize, g: usize) -> W
@@ -17,8 +20,8 @@ fn moved<W: Weight>(sheet: &[W], x: usize, g: usize) -> W
     }
 }
 
-// Lets the time `g` pass: each time above it falls by it, and the others come to 0.
-pub fn pass<W: Weight>(sheet: &mut [W], g: u8)
+// Lets a time of at most 255 pass.
+fn pass_time<W: Weight>(sheet: &mut [W], g: u8)
     requires { ⌜ 257 ≤ length (now sheet) ⌝ }
     ensures { λ _. ⌜ cells ops (now (sheet .exit)) ≡ passed ops g (cells ops (now (sheet .entry))) ⌝ }
 {
@@ -28,4 +31,13 @@ pub fn pass<W: Weight>(sheet: &mut [W], g: u8)
         sheet[x] = moved(sheet, x, g);
     }
     sheet[0] = due;
+}
+
+/// Lets `g` ticks pass: each time above `g` falls by `g`, and the others gather at 0. What lies beyond stays.
+pub fn pass<W: Weight>(sheet: &mut [W], g: u64) -> Result<(), SheetRefusal>
+    ensures { λ r. ⌜ Done ops r (now (sheet .entry)) (now (sheet .exit)) (passed ops g) ⌝ }
+{
+    long_enough(sheet)?;
+    pass_time(sheet, g.min(255) as u8);
+    Ok(())
 }

@@ -1,9 +1,8 @@
-//! Rules that give each job a rank.
 ghost use mathlib.Core.Path.{_≡_};
 ghost use Prim.Native.Nat.{ℕ};
 ghost use Rattle.analysis.specs.Ranks.{tableRank, deadlineRank};
 
-/// A rule that ranks a job by its place, its period, its deadline and its release.
+/// A rule that ranks a job by its place, its period, its deadline and its release. The lower rank goes ahead.
 pub trait Ranking {
     /// The rank by place, period, deadline and release.
     ghost ranks: { Self → ℕ → ℕ → ℕ → ℕ → ℕ };
@@ -12,25 +11,21 @@ pub trait Ranking {
         ensures { λ r. ⌜ r ≡ ranks (now (self .entry)) place period deadline release ⌝ };
 }
 
-/// The rank stands in a table, by place.
+/// The rank stands in a table, by place; a place above 15 counts as 15.
 #[derive(Clone, Copy)]
 pub struct TableRule {
-    pub table: [u64; 16],
+    pub ranks: [u64; 16],
 }
 
 pub impl Ranking for TableRule as ByTable {
-    ghost ranks = { λ s place _ _ _. tableRank (s .table) place };
+    ghost ranks = { λ s place _ _ _. tableRank (s .ranks) place };
 
     fn rank(&self, place: u8, _period: u16, _deadline: u8, _release: u64) -> u64 {
-        if place > 15 {
-            self.table[15]
-        } else {
-            self.table[place as usize]
-        }
+        self.ranks[place.min(15) as usize]
     }
 }
 
-/// The shorter period first.
+/// The shorter period goes ahead.
 #[derive(Clone, Copy)]
 pub struct PeriodRule;
 
@@ -42,7 +37,7 @@ pub impl Ranking for PeriodRule as ByPeriod {
     }
 }
 
-/// The earlier deadline first.
+/// The earlier deadline goes ahead.
 #[derive(Clone, Copy)]
 pub struct DeadlineRule;
 
@@ -52,9 +47,4 @@ pub impl Ranking for DeadlineRule as ByDeadline {
     fn rank(&self, _place: u8, _period: u16, deadline: u8, release: u64) -> u64 {
         release.saturating_add(deadline as u64)
     }
-}
-
-/// The lower rank of two jobs of one rule.
-pub fn first<R: Ranking>(rule: &R, place: u8, other: u8, release: u64) -> bool {
-    rule.rank(place, 1, 1, release) <= rule.rank(other, 1, 1, release)
 }

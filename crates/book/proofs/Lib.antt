@@ -6,3 +6,4 @@ pub mod Searches
 pub mod Releases
 pub mod At
 pub mod Counted
+pub mod Sheets

@@ -7,3 +7,4 @@ pub mod Moves
 pub mod Drafts
 pub mod Jobs
 pub mod Found
+pub mod Walk

@@ -52,7 +52,8 @@ impl Entries {
     /// The job that the task at a place releases at the tick, if it goes ahead of `job`.
     fn ahead_at<R: Ranking>(&self, rule: &R, job: &Job, place: u8, tick: u32) -> Option<Job>
         requires { ⌜ all-lawful (places (now self)) ≡ true ⌝ ∗ ⌜ place < 16 ⌝ }
-        ensures { λ r. ⌜ map job-of (listOf r) ≡ ahead-at (R·Ranking .ranks (now (rule .entry))) (job-of (now (job .entry))) place (getD (places (now (self .entry))) place None) tick ⌝ }
+        ensures finds { λ r. ⌜ map job-of (listOf r) ≡ ahead-at (R·Ranking .ranks (now (rule .entry))) (job-of (now (job .entry))) place (getD (places (now (self .entry))) place None) tick ⌝ }
+        ensures at { λ r. ⌜ Cases r (Unit {0}) (λ k. k .release ≡ tick) ⌝ }
     {
         let task = self.get(place)?;
         if !task.releases_at(tick) {
@@ -87,6 +88,7 @@ impl Entries {
     fn look<R: Ranking>(&self, rule: &R, job: &Job, cursor: &mut Cursor) -> Option<Job>
         requires { ⌜ all-lawful (places (now self)) ≡ true ⌝ ∗ ⌜ Stands (places (now self)) (job-of (now job)) ⌝ ∗ ⌜ now cursor .tick < due (job-of (now job)) ⌝ }
         ensures finds { λ r. ⌜ left (R·Ranking .ranks (now (rule .entry))) (places (now (self .entry))) (job-of (now (job .entry))) (now (cursor .entry)) ≡ map job-of (listOf r) ++ left (R·Ranking .ranks (now (rule .entry))) (places (now (self .entry))) (job-of (now (job .entry))) (now (cursor .exit)) ⌝ }
+        ensures soon { λ r. ⌜ Cases r (Unit {0}) (λ k. k .release < due (job-of (now (job .entry)))) ⌝ }
         ensures falls { λ _. ⌜ slots (job-of (now (job .entry))) (now (cursor .exit)) < slots (job-of (now (job .entry))) (now (cursor .entry)) ⌝ }
     {
         let tick = cursor.tick;
@@ -103,7 +105,8 @@ impl Entries {
     /// The next counted job after the cursor, which goes on past it.
     pub fn next_counted<R: Ranking>(&self, rule: &R, job: &Job, cursor: &mut Cursor) -> Option<Job>
         requires { ⌜ all-lawful (places (now self)) ≡ true ⌝ ∗ ⌜ Stands (places (now self)) (job-of (now job)) ⌝ }
-        ensures { λ r. ⌜ Cases r (left (R·Ranking .ranks (now (rule .entry))) (places (now (self .entry))) (job-of (now (job .entry))) (now (cursor .entry)) ≡ []) (λ k. left (R·Ranking .ranks (now (rule .entry))) (places (now (self .entry))) (job-of (now (job .entry))) (now (cursor .entry)) ≡ job-of k ∷ left (R·Ranking .ranks (now (rule .entry))) (places (now (self .entry))) (job-of (now (job .entry))) (now (cursor .exit))) ⌝ }
+        ensures finds { λ r. ⌜ Cases r (left (R·Ranking .ranks (now (rule .entry))) (places (now (self .entry))) (job-of (now (job .entry))) (now (cursor .entry)) ≡ []) (λ k. left (R·Ranking .ranks (now (rule .entry))) (places (now (self .entry))) (job-of (now (job .entry))) (now (cursor .entry)) ≡ job-of k ∷ left (R·Ranking .ranks (now (rule .entry))) (places (now (self .entry))) (job-of (now (job .entry))) (now (cursor .exit))) ⌝ }
+        ensures soon { λ r. ⌜ Cases r (Unit {0}) (λ k. k .release < due (job-of (now (job .entry)))) ⌝ }
     {
         let end = job.due();
         while cursor.tick < end {

@@ -1,6 +1,7 @@
 use borrow.Author.Needs.{needs}
 use lib.Seq.{take-all}
-use Rattle.analysis.specs.Cells.{cells, excess}
+use Rattle.analysis.specs.Cells.{cells}
+use Rattle.analysis.specs.Inner.{excess}
 use Rattle.analysis.proofs.Steps.{over-more}
 use Rattle.analysis.proofs.adding.overrun.Needs as need
 

@@ -1,6 +1,7 @@
 use mathlib.Core.Path.{_≡_}
 use lib.ListN.{take}
-use Rattle.analysis.specs.Cells.{cells, overdue}
+use Rattle.analysis.specs.Cells.{cells}
+use Rattle.analysis.specs.Inner.{overdue}
 use Rattle.analysis.proofs.adding.overrun.Given as given
 
 abbrev pub Inv-loop-pair : given.InvT-loop-pair

@@ -2,7 +2,8 @@ use mathlib.Core.Path.{_≡_, _∙_, ap}
 use Prim.Native.Nat.{ℕ}
 use native.Mathlib.Omega.{arith}
 use Rattle.std.proofs.shelf.Lists.{getD-read}
-use Rattle.analysis.specs.Cells.{cells, scaled}
+use Rattle.analysis.specs.Cells.{cells}
+use Rattle.analysis.specs.Inner.{scaled}
 use Rattle.analysis.proofs.Steps.{joint-none, joint-up, joint-above}
 use Rattle.analysis.proofs.adding.scale.Needs as need
 

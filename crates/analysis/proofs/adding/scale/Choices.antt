@@ -1,5 +1,6 @@
 use mathlib.Core.Path.{_≡_}
-use Rattle.analysis.specs.Cells.{cells, scaled}
+use Rattle.analysis.specs.Cells.{cells}
+use Rattle.analysis.specs.Inner.{scaled}
 use Rattle.analysis.proofs.adding.scale.Given as given
 
 abbrev pub Inv-loop-x : given.InvT-loop-x

@@ -1,7 +1,8 @@
 use mathlib.Core.Path.{_≡_, _∙_, ap, sym}
 use Prim.Native.Nat.{_-_}
 use native.Mathlib.Omega.{arith}
-use Rattle.analysis.specs.Cells.{cells, joint, arriving, spreading}
+use Rattle.analysis.specs.Cells.{cells, arriving}
+use Rattle.analysis.specs.Inner.{joint, spreading}
 use Rattle.analysis.proofs.Steps.{spread-none, joint-down, joint-below, arriving-same}
 use Rattle.analysis.proofs.adding.spread.Needs as need
 

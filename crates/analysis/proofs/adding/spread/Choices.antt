@@ -1,6 +1,7 @@
 use mathlib.Core.Path.{_≡_}
 use Prim.Native.Nat.{_≤_}
-use Rattle.analysis.specs.Cells.{cells, joint, arriving}
+use Rattle.analysis.specs.Cells.{cells, arriving}
+use Rattle.analysis.specs.Inner.{joint}
 use Rattle.analysis.proofs.adding.spread.Given as given
 
 abbrev pub Inv-loop-x : given.InvT-loop-x

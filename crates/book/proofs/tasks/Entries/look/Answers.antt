@@ -2,6 +2,7 @@ use Prim.Native.Nat.{_+_, _<_, _≤_}
 use mathlib.Core.Path.{_≡_, sym, ap, subst, _∙_}
 use mathlib.Core.List.{_++_}
 use native.Mathlib.Omega.{arith}
+use borrow.Author.Needs.{needs}
 use lib.ListN.{length}
 use Rattle.std.proofs.shelf.Lists.{length-map}
 use Rattle.std.proofs.shelf.Tests.{cond-true, cond-false, eq-eqb, ne-eqb}
@@ -20,7 +21,8 @@ returns-then-place-lt16 g c =
     let p = c .args .cursor .now .place in
     let long : length ps ≡ 16 = simp length-map (c .args .self .now .sixteen) in
     record {
-      finds = left-place rule ps j t p (c .pre .1 .1) (omega arith) ∙ ap (λ xs. xs ++ left-from rule ps j t (p + 1)) (sym (c .ahead-at .ensures));
+      finds = left-place rule ps j t p (c .pre .1 .1) (omega arith) ∙ ap (λ xs. xs ++ left-from rule ps j t (p + 1)) (sym (c .ahead-at .ensures .finds));
+      soon = search needs;
       falls = omega arith;
     }
 
@@ -44,6 +46,7 @@ returns-then-tick-job g c =
     let skips = subst (λ d. Skips ps (t + 1) d r) (c .due .ensures) (c .next-release-cursor .ensures) in
     record {
       finds = left-own rule ps j t (c .args .cursor .now .place) r (c .pre .1 .1) (omega arith) long (c .pre .1 .0) skips ∙ ap (λ xs. xs ++ left-from rule ps j r 0) (cond-true _ _ _ (eq-eqb t (j .release) (c .if-tick-job .taken)));
+      soon = omega (arith, c .pre .1 .1);
       falls = omega (arith, skips .low, skips .high, c .pre .1 .1);
     }
 
@@ -58,5 +61,6 @@ returns-else-tick-job g c =
     let skips = subst (λ d. Skips ps (t + 1) d r) (c .due .ensures) (c .next-release-cursor .ensures) in
     record {
       finds = left-own rule ps j t (c .args .cursor .now .place) r (c .pre .1 .1) (omega arith) long (c .pre .1 .0) skips ∙ ap (λ xs. xs ++ left-from rule ps j r 0) (cond-false _ _ _ (ne-eqb t (j .release) (c .if-tick-job .left)));
+      soon = tt;
       falls = omega (arith, skips .low, skips .high, c .pre .1 .1);
     }

@@ -1,9 +1,0 @@
-use mathlib.Core.Path.{_≡_}
-use Rattle.analysis.specs.Cells.{cells, joint, later}
-use Rattle.analysis.proofs.passing.pass.Given as given
-
-abbrev pub Inv-loop-x : given.InvT-loop-x
-Inv-loop-x g l =
-    let o = g .W·Weight .ops in
-    let old = cells o (l .entry .sheet) in
-    cells o (l .sheet) ≡ joint (later o (l .g) old) old (l .x)

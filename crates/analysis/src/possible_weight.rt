@@ -1,0 +1,41 @@
+ghost use Rattle.analysis.specs.Possibles.{possible-ops, possible-least, possible-laws};
+use super::possible::Possible;
+use theory::Weight;
+
+pub impl Weight for Possible as PossibleWeight {
+    ghost ops = { possible-ops };
+
+    ghost least = { possible-least };
+
+    ghost laws = { possible-laws };
+
+    fn nought() -> Possible {
+        Possible::No
+    }
+
+    fn unit() -> Possible {
+        Possible::Yes
+    }
+
+    fn sum(self, other: Possible) -> Possible {
+        match self {
+            Possible::Yes => Possible::Yes,
+            Possible::No => other,
+        }
+    }
+
+    fn product(self, other: Possible) -> Possible {
+        match self {
+            Possible::Yes => other,
+            Possible::No => Possible::No,
+        }
+    }
+
+    fn read(_weight: u32) -> Possible {
+        Possible::Yes
+    }
+
+    fn is_top(self) -> bool {
+        false
+    }
+}

@@ -1,0 +1,41 @@
+-- A sheet of 257 cells at the start of a walk, and after it.
+use Prim.Native.Nat.{ℕ, _<_, _≤_}
+use mathlib.Core.Path.{_≡_, refl, sym, ap, _∙_}
+use mathlib.Core.List.{List}
+use mathlib.Core.Logic.{⊎-elim}
+use mathlib.Core.Bool.{cond}
+use native.Mathlib.Omega.{arith}
+use lib.Dec.{ltb, eqb}
+use lib.ListN.{length, getD, set}
+use Rattle.std.proofs.shelf.Lists.{getD-past}
+use Rattle.std.proofs.shelf.Tests.{cases-lt, cases-eq, cond-true, cond-false, eq-eqb, ne-eqb, lt-ltb, le-ltb}
+use Rattle.analysis.specs.declared.count.Count.{Count}
+use Rattle.analysis.specs.Counts.{count-ops, counted, same-count}
+use Rattle.theory.specs.Semiring.{Ops}
+use Rattle.analysis.specs.Cells.{cells, cleared, tail, tailed}
+use Rattle.analysis.proofs.Steps.{put, cells-set, same-cells}
+use Rattle.book.specs.Walk.{whole}
+
+-- a cleared sheet of 257 cells is nought at every place
+pub cleared-nought : (xs : List Count) (k : ℕ) → length xs ≡ 257 → cleared count-ops (cells count-ops xs) k ≡ counted 0
+unfolding cleared
+cleared-nought xs k long =
+    ⊎-elim (λ (h : k < 257). cond-true _ _ _ (lt-ltb k 257 h))
+    (λ (h : 257 ≤ k). cond-false _ _ _ (le-ltb k 257 h) ∙ getD-past xs k (counted 0) (omega arith))
+    (cases-lt k 257)
+
+put-whole : (f : ℕ → Count) (y : Count) → ((k : ℕ) → f k ≡ counted 0) → y .value ≡ 1048576 → (k : ℕ) → put f 0 y k ≡ whole k
+put-whole f y none is k =
+    ⊎-elim
+    (λ (e : k ≡ 0). cond-true _ _ _ (eq-eqb k 0 e) ∙ (same-count y (counted 1048576) is ∙ sym (cond-true _ _ _ (eq-eqb k 0 e))))
+    (λ (e : k ≡ 0 → ⊥). cond-false _ _ _ (ne-eqb k 0 e) ∙ (none k ∙ sym (cond-false _ _ _ (ne-eqb k 0 e))))
+    (cases-eq k 0)
+
+pub whole-laid : (old xs : List Count) (y : Count) → length old ≡ 257 → length xs ≡ 257 → cells count-ops xs ≡ cleared count-ops (cells count-ops old) → y .value ≡ 1048576 → cells count-ops (set xs 0 y) ≡ whole
+whole-laid old xs y long kept e is =
+    cells-set count-ops xs 0 y (omega arith)
+    ∙ same-cells (put-whole (cells count-ops xs) y (λ k. ap (λ f. f k) e ∙ cleared-nought old k long) is)
+
+pub tailed-at : {K : Type 0} (o : Ops K) (f : ℕ → K) (k : ℕ) → k < 257 → tailed o f k ≡ tail o f k
+unfolding tailed
+tailed-at o f k h = cond-true _ _ _ (lt-ltb k 257 h)
