@@ -23,7 +23,7 @@ unfolding tailed
 tailed-past h k l = cond-false (ltb k 257) _ _ (le-ltb k 257 l)
 
 module _ (by : ℕ) (h : ℕ → Count) where
-  rounded-at : (k : ℕ) → k < 257 → rounded-off by h k ≡ lessened by (tail count-ops h) k
+  pub rounded-at : (k : ℕ) → k < 257 → rounded-off by h k ≡ lessened by (tail count-ops h) k
   unfolding rounded-off
   rounded-at k l = cond-true (ltb k 257) _ _ (lt-ltb k 257 l)
 

@@ -22,6 +22,10 @@ module _ {K : Type 0} {o : Ops K} {least : K → K → Type 0} (laws : Laws o le
   over-cons h x xs =
       folded-from h (o .sum (o .nought) (h x)) xs ∙ ap (λ v. o .sum v (over o h xs)) (laws .sum-nought (h x))
 
+  pub over-nought : {X : Type 0} (xs : List X) → over o (λ x. o .nought) xs ≡ o .nought
+  over-nought [] = refl
+  over-nought (x ∷ xs) = over-cons (λ x. o .nought) x xs ∙ laws .sum-nought _ ∙ over-nought xs
+
   swap : (a b c d : K) → o .sum (o .sum a b) (o .sum c d) ≡ o .sum (o .sum a c) (o .sum b d)
   swap a b c d =
       laws .sum-assoc a b (o .sum c d)
@@ -41,7 +45,7 @@ module _ {K : Type 0} {o : Ops K} {least : K → K → Type 0} (laws : Laws o le
       over-cons (λ x. o .product c (h x)) x xs ∙ ap (o .sum (o .product c (h x))) (over-product c h xs)
       ∙ sym (laws .distributive c (h x) (over o h xs)) ∙ ap (o .product c) (sym (over-cons h x xs))
 
-  product-sum : (a b c : K) → o .product (o .sum a b) c ≡ o .sum (o .product a c) (o .product b c)
+  pub product-sum : (a b c : K) → o .product (o .sum a b) c ≡ o .sum (o .product a c) (o .product b c)
   product-sum a b c =
       laws .product-comm (o .sum a b) c ∙ laws .distributive c a b
       ∙ ap (λ v. o .sum v (o .product c b)) (laws .product-comm c a) ∙ ap (o .sum (o .product a c)) (laws .product-comm c b)

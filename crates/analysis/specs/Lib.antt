@@ -6,5 +6,6 @@ pub mod Cells
 pub mod Rounding
 pub mod Refusals
 pub mod Sheets
+pub mod Kept
 pub mod Inner
 pub mod Ranks

@@ -13,8 +13,8 @@ use Rattle.std.specs.declared.option.Option.the-variants.{Some, None}
 use Rattle.std.proofs.shelf.Lists.{at-drop-more, drop-all, append-assoc}
 use Rattle.std.proofs.shelf.Tests.{cases-lt, cases-eq, cases-bool, and-left, cond-true, cond-false, lt-ltb, le-ltb, ne-eqb, both-ways, not-from-true, not-true}
 use Rattle.book.specs.Model.{Entry}
-use Rattle.book.specs.Jobs.{Rule, Job, ahead, releases, ahead-at, ahead-from, own, counted-in, counted}
-use Rattle.book.specs.Found.{due, left-from, quiet, Stands, Skips}
+use Rattle.book.specs.Jobs.{Rule, Job, due, ahead, releases, ahead-at, ahead-from, own, counted-in, counted}
+use Rattle.book.specs.Found.{left-from, quiet, Stands, Skips}
 
 module _ (rule : Rule) (ps : List (Option Entry)) (j : Job) where
   quiet-at : (q : ℕ) (x : Option Entry) (t : ℕ) → quiet x t ≡ true → ahead-at rule j q x t ≡ []

@@ -7,3 +7,6 @@ pub mod Releases
 pub mod At
 pub mod Counted
 pub mod Sheets
+pub mod Bound
+pub mod Window
+pub mod Asked

@@ -1,13 +1,13 @@
 -- A sheet of 257 cells at the start of a walk, and after it.
-use Prim.Native.Nat.{ℕ, _<_, _≤_}
+use Prim.Native.Nat.{ℕ, _+_, _-_, _<_, _≤_}
 use mathlib.Core.Path.{_≡_, refl, sym, ap, _∙_}
-use mathlib.Core.List.{List}
+use mathlib.Core.List.{List, _++_}
 use mathlib.Core.Logic.{⊎-elim}
 use mathlib.Core.Bool.{cond}
 use native.Mathlib.Omega.{arith}
 use lib.Dec.{ltb, eqb}
-use lib.ListN.{length, getD, set}
-use Rattle.std.proofs.shelf.Lists.{getD-past}
+use lib.ListN.{length, getD, set, drop}
+use Rattle.std.proofs.shelf.Lists.{getD-past, getD-append-left, getD-append-right, getD-drop}
 use Rattle.std.proofs.shelf.Tests.{cases-lt, cases-eq, cond-true, cond-false, eq-eqb, ne-eqb, lt-ltb, le-ltb}
 use Rattle.analysis.specs.declared.count.Count.{Count}
 use Rattle.analysis.specs.Counts.{count-ops, counted, same-count}
@@ -39,3 +39,18 @@ whole-laid old xs y long kept e is =
 pub tailed-at : {K : Type 0} (o : Ops K) (f : ℕ → K) (k : ℕ) → k < 257 → tailed o f k ≡ tail o f k
 unfolding tailed
 tailed-at o f k h = cond-true _ _ _ (lt-ltb k 257 h)
+
+-- a sheet whose first 257 cells were written over by noughts
+pub swept-part : (old new : List Count) → length new ≡ 257 → ((k : ℕ) → cells count-ops new k ≡ counted 0) → cells count-ops (new ++ drop 257 old) ≡ cleared count-ops (cells count-ops old)
+unfolding cleared
+swept-part old new long none =
+    same-cells (λ k.
+    ⊎-elim
+    (λ (h : k < 257). getD-append-left new (drop 257 old) (counted 0) k (omega arith) ∙ none k ∙ sym (cond-true _ _ _ (lt-ltb k 257 h)))
+    (λ (h : 257 ≤ k).
+    let at : 257 + (k - 257) ≡ k = omega arith in
+    getD-append-right new (drop 257 old) 257 k (counted 0) long h
+    ∙ getD-drop 257 old (k - 257) (counted 0)
+    ∙ ap (λ i. getD old i (counted 0)) at
+    ∙ sym (cond-false _ _ _ (le-ltb k 257 h)))
+    (cases-lt k 257))

@@ -11,14 +11,10 @@ use Rattle.book.specs.declared.jobs.Job.{Job as Found}
 use Rattle.book.specs.declared.jobs.Cursor.{Cursor}
 use Rattle.book.specs.Model.{Entry}
 use Rattle.book.specs.Places.{entry-of}
-use Rattle.book.specs.Jobs.{Rule, Job, releases, ahead-from, own, counted-in}
+use Rattle.book.specs.Jobs.{Rule, Job, due, releases, ahead-from, own, counted-in}
 
 abbrev pub job-of : Found → Job
 job-of j = record { place = j .place; entry = entry-of (j .task); release = j .release }
-
--- the tick before which later counted jobs are released
-abbrev pub due : Job → ℕ
-due j = j .release + j .entry .deadline
 
 -- what is left of the counted jobs from a place of a tick on
 unfoldable pub left-from : Rule → List (Option Entry) → Job → ℕ → ℕ → List Job

@@ -17,6 +17,10 @@ pub record Job : Type 0 where
   pub entry : Entry
   pub release : ℕ
 
+-- the tick at which the deadline falls
+abbrev pub due : Job → ℕ
+due j = j .release + j .entry .deadline
+
 abbrev pub rank : Rule → Job → ℕ
 rank rule j = rule (j .place) (j .entry .period) (j .entry .deadline) (j .release)
 
@@ -53,9 +57,9 @@ unfoldable pub counted-in : Rule → List (Option Entry) → Job → ℕ → ℕ
 counted-in rule ps j zero t = []
 counted-in rule ps j (suc n) t = ahead-from rule j 0 ps t ++ (own j t ++ counted-in rule ps j n (t + 1))
 
--- the counted jobs: j, and the jobs ahead of j that are released before j's deadline has passed
+-- the counted jobs: j, and the jobs ahead of j that are released before its deadline falls
 unfoldable pub counted : Rule → List (Option Entry) → Job → List Job
-counted rule ps j = counted-in rule ps j (j .release + j .entry .deadline) 0
+counted rule ps j = counted-in rule ps j (due j) 0
 
 -- the release of job i of a task
 abbrev pub release-of : Entry → ℕ → ℕ

@@ -8,3 +8,5 @@ pub mod Drafts
 pub mod Jobs
 pub mod Found
 pub mod Walk
+pub mod Asks
+pub mod Granted

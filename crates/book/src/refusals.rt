@@ -1,6 +1,8 @@
 //! Why a call is refused.
 ghost use mathlib.Core.Path.{_≡_};
+ghost use Rattle.analysis.specs.Refusals.{sheet-number};
 ghost use Rattle.book.specs.Refusals.{number};
+use analysis::SheetRefusal;
 
 /// Why a call is refused; each reason has the number by which it is told.
 #[derive(Clone, Copy)]
@@ -37,5 +39,15 @@ impl Refusal {
         ensures { λ r. ⌜ r ≡ number self ⌝ }
     {
         self as u8
+    }
+}
+
+pub impl From<SheetRefusal> for Refusal as SheetRefused {
+    ghost converts = { λ e r. number r ≡ sheet-number e };
+
+    fn from(refusal: SheetRefusal) -> Refusal {
+        match refusal {
+            SheetRefusal::Short => Refusal::Sheet,
+        }
     }
 }

@@ -44,10 +44,10 @@ up-below : (u b d : ℕ) → 0 < d → u * d < b + d → u ≤ up b d
 unfolding up
 up-below u b d weighs h = le-div-iff-mul-le weighs .1 (omega arith)
 
-up-falls : (a b d : ℕ) → 0 < d → a ≤ b → up a d ≤ up b d
+pub up-falls : (a b d : ℕ) → 0 < d → a ≤ b → up a d ≤ up b d
 up-falls a b d weighs h = up-below (up a d) b d weighs (omega (arith, up-little a d weighs))
 
-up-zero : (d : ℕ) → 0 < d → up 0 d ≡ 0
+pub up-zero : (d : ℕ) → 0 < d → up 0 d ≡ 0
 up-zero d h = by (up 0 d) (up-little 0 d h)
   where
     by : (u : ℕ) → u * d < 0 + d → u ≡ 0

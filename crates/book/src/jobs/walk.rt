@@ -10,7 +10,7 @@ ghost use Rattle.analysis.specs.Sheets.{Done};
 ghost use Rattle.book.specs.Model.{all-lawful};
 ghost use Rattle.book.specs.Places.{places};
 ghost use Rattle.book.specs.Jobs.{counted};
-ghost use Rattle.book.specs.Found.{job-of, due, Stands};
+ghost use Rattle.book.specs.Found.{job-of, Stands};
 ghost use Rattle.book.specs.Walk.{settled, begun, stepped, walked, rounded-sheet, late-over};
 use crate::jobs::Job;
 use crate::tasks::Entries;

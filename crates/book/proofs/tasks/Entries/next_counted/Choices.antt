@@ -1,6 +1,7 @@
 use mathlib.Core.Path.{_≡_}
 use Rattle.book.specs.Places.{places}
-use Rattle.book.specs.Found.{job-of, left, slots, due}
+use Rattle.book.specs.Jobs.{due}
+use Rattle.book.specs.Found.{job-of, left, slots}
 use Rattle.book.proofs.tasks.Entries.next_counted.Given as given
 
 abbrev pub Inv-loop-cursor : given.InvT-loop-cursor

@@ -1,0 +1,5 @@
+use Rattle.analysis.proofs.Kept.{rounding-divides}
+use Rattle.analysis.proofs.keeping.rounding_divides_tails.Needs as need
+
+pub returns : need.returns
+returns c = rounding-divides
