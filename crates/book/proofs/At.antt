@@ -11,7 +11,7 @@ use Rattle.std.proofs.shelf.Tests.{and-parts}
 use Rattle.std.proofs.shelf.Ways.{tells}
 use Rattle.book.specs.Model.{Entry, entry-lawful, all-lawful}
 
-not-none : {X : Type 0} (x : X) → Some x ≡ None → ⊥
+pub not-none : {X : Type 0} (x : X) → Some x ≡ None → ⊥
 not-none x e = let z : _≡_ {A = ℕ} 0 1 = cc in omega arith
 
 pub lawful-at : (ps : List (Option Entry)) (i : ℕ) (e : Entry) → all-lawful ps ≡ true → Some e ≡ getD ps i None → entry-lawful e ≡ true

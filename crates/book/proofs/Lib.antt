@@ -10,3 +10,5 @@ pub mod Sheets
 pub mod Bound
 pub mod Window
 pub mod Asked
+pub mod Rounds
+pub mod Plans

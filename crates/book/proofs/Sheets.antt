@@ -3,7 +3,7 @@ use Prim.Native.Nat.{ℕ, _+_, _-_, _<_, _≤_}
 use mathlib.Core.Path.{_≡_, refl, sym, ap, _∙_}
 use mathlib.Core.List.{List, _++_}
 use mathlib.Core.Logic.{⊎-elim}
-use mathlib.Core.Bool.{cond}
+use mathlib.Core.Bool.{Bool, true, false, cond}
 use native.Mathlib.Omega.{arith}
 use lib.Dec.{ltb, eqb}
 use lib.ListN.{length, getD, set, drop}
@@ -54,3 +54,11 @@ swept-part old new long none =
     ∙ ap (λ i. getD old i (counted 0)) at
     ∙ sym (cond-false _ _ _ (le-ltb k 257 h)))
     (cases-lt k 257))
+
+pub cleared-twice : {K : Type 0} (o : Ops K) (f : ℕ → K) → cleared o (cleared o f) ≡ cleared o f
+unfolding cleared
+cleared-twice o f = same-cells (λ k. cleared-cell (ltb k 257) (o .nought) (f k))
+  where
+    cleared-cell : {K : Type 0} (b : Bool) (x y : K) → cond b x (cond b x y) ≡ cond b x y
+    cleared-cell true x y = refl
+    cleared-cell false x y = refl

@@ -10,3 +10,4 @@ pub mod Found
 pub mod Walk
 pub mod Asks
 pub mod Granted
+pub mod Batches

@@ -10,6 +10,7 @@ use crate::drafts::Draft;
 use crate::tasks::Task;
 
 pub mod asks;
+pub mod rounds;
 
 /// An issued book: it answers questions, and is reopened to be edited.
 #[derive(Drop)]

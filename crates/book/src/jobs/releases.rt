@@ -4,12 +4,20 @@ ghost use mathlib.Core.Bool.{true, false};
 ghost use Prim.Native.Nat.{ℕ, _+_, _≤_, _<_, _^_};
 ghost use Rattle.book.specs.Model.{all-lawful};
 ghost use Rattle.book.specs.Places.{places, entry-of};
-ghost use Rattle.book.specs.Jobs.{releases};
+ghost use Rattle.book.specs.Jobs.{releases, release-of};
 ghost use Rattle.book.specs.Found.{Skips};
 use crate::tasks::Entries;
 use crate::tasks::Task;
 
 impl Task {
+    /// The release of job `index`.
+    pub fn release_of(&self, index: u32) -> u32
+        requires { ⌜ index ≤ 32768 ⌝ }
+        ensures { λ r. ⌜ r ≡ release-of (entry-of (now (self .entry))) index ⌝ }
+    {
+        self.phase as u32 + index * self.period as u32
+    }
+
     /// Whether a job is released at the tick.
     pub fn releases_at(&self, tick: u32) -> bool
         requires { ⌜ 1 ≤ now self .period ⌝ }

@@ -49,7 +49,7 @@ impl Plan {
 
 impl Plan {
     /// The rounded late weight of a job of the plan, by a walk on the first 257 cells of a sheet, which are left nought.
-    fn late_of<R: Ranking>(
+    pub(super) fn late_of<R: Ranking>(
         &self,
         rule: &R,
         job: &Job,
