@@ -64,6 +64,9 @@ rounding-divides by f x = rounded-each by f x (cases-lt x 257)
 le-same : (a b : ℕ) → a ≡ b → a ≤ b
 le-same a b e = omega arith
 
+le-both : (a b m : ℕ) → a ≤ b → b ≤ m → a ≤ m
+le-both a b m h k = omega arith
+
 le-through : (a b m : ℕ) → a ≡ b → b ≤ m → a ≤ m
 le-through a b m e l = omega arith
 
@@ -75,6 +78,11 @@ pub rounded-whole : (by : ℕ) (f : ℕ → Count) → tail count-ops (rounded-o
 rounded-whole by f = le-same _ _ (rounding-divides by f 0)
 
 -- A BOUND ON THE WHOLE WEIGHT
+-- `tail ops f 0` computes to 257 sums, which omega does not take in: these lemmas carry a bound m on it from step to step.
+-- no tail passes it
+pub tail-bound : (f : ℕ → Count) (x m : ℕ) → tail count-ops f 0 .value ≤ m → tail count-ops f x .value ≤ m
+tail-bound f x m = le-both _ _ m (tail-most f x)
+
 -- passing keeps it
 pub passed-bound : (g : ℕ) (f : ℕ → Count) (m : ℕ) → tail count-ops f 0 .value ≤ m → tail count-ops (passed count-ops g f) 0 .value ≤ m
 passed-bound g f m = le-through _ _ m (ap (λ v. v .value) (passing-keeps count-laws g f))

@@ -96,6 +96,14 @@ module _ {K : Type 0} {o : Ops K} {least : K → K → Type 0} (laws : Laws o le
   span-one : (f : ℕ → K) (a : ℕ) → span o f a 1 ≡ f a
   span-one f a = laws .sum-nought (f (a + 0)) ∙ ap f (add-zero a)
 
+  lone-span : (f : ℕ → K) (n : ℕ) → ((k : ℕ) → k < n → f (0 + 1 + k) ≡ o .nought) → span o f 0 (1 + n) ≡ f 0
+  lone-span f n e =
+      span-first laws f 0 n ∙ ap (o .sum (f 0)) (span-nought f (0 + 1) n e) ∙ sum-nought-right laws (f 0)
+
+  -- where cells 1 to 256 are nought, cell 0 is the whole weight
+  pub lone-whole : (f : ℕ → K) → ((k : ℕ) → 0 < k → k ≤ 256 → f k ≡ o .nought) → tail o f 0 ≡ f 0
+  lone-whole f e = lone-span f 256 (λ k l. e (0 + 1 + k) (omega arith) (omega arith))
+
   -- PASSING
   -- the cells from the emptied ones on: only what lies beyond
   passed-rest : (g : ℕ) (f : ℕ → K) → span o (passed o g f) (0 + 1 + (255 - min g 255)) (min g 255 + 1) ≡ span o f (0 + (min g 255 + 1) + (255 - min g 255)) 1

@@ -1,3 +1,4 @@
+pub mod Semiring
 pub mod Stopped
 pub mod Counts
 pub mod Heaviests

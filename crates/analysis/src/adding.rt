@@ -10,13 +10,20 @@ use super::spans::gathered;
 use super::spans::long_enough;
 use theory::Weight;
 
+// The weight of a pair, in the kind.
+fn weighed<W: Weight>(pair: Pair) -> W
+    ensures { λ r. ⌜ r ≡ ops .read (pair .weight) ⌝ }
+{
+    W::read(pair.weight as u32)
+}
+
 /// The sum of the table's weights.
 pub fn total<W: Weight>(table: &[Pair]) -> W
     ensures { λ r. ⌜ r ≡ total ops (now (table .entry)) ⌝ }
 {
     let mut all = W::nought();
     for pair in table {
-        all = all.sum(W::read(pair.weight as u32));
+        all = all.sum(weighed(*pair));
     }
     all
 }
@@ -28,7 +35,7 @@ fn brought<W: Weight>(sheet: &[W], low: usize, pair: Pair, x: usize) -> W
 {
     let t = pair.time as usize;
     if low + t <= x {
-        sheet[x - t].product(W::read(pair.weight as u32))
+        sheet[x - t].product(weighed(pair))
     } else {
         W::nought()
     }
@@ -52,7 +59,7 @@ fn carried<W: Weight>(sheet: &[W], low: usize, pair: Pair) -> W
     ensures { λ r. ⌜ r ≡ excess ops low (cells ops (now (sheet .entry))) pair ⌝ }
 {
     let from = low.max(256 - pair.time as usize);
-    gathered(sheet, from, 257).product(W::read(pair.weight as u32))
+    gathered(sheet, from, 257).product(weighed(pair))
 }
 
 // What comes beyond the last time from the times at or above `low`.

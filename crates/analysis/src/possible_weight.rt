@@ -10,11 +10,11 @@ pub impl Weight for Possible as PossibleWeight {
     ghost laws = { possible-laws };
 
     fn nought() -> Possible {
-        Possible::No
+        Self::No
     }
 
     fn unit() -> Possible {
-        Possible::Yes
+        Self::Yes
     }
 
     fn sum(self, other: Possible) -> Possible {
@@ -32,7 +32,7 @@ pub impl Weight for Possible as PossibleWeight {
     }
 
     fn read(_weight: u32) -> Possible {
-        Possible::Yes
+        Self::unit()
     }
 
     fn is_top(self) -> bool {

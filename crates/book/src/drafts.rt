@@ -6,7 +6,7 @@ ghost use Rattle.book.specs.Places.{places};
 use crate::tables::TimeTable;
 use crate::tasks::Entries;
 
-pub mod edits;
+mod edits;
 pub mod plans;
 
 /// A book that is edited: lawful entries at sixteen places, with a hyperperiod of at most 4,096 and at most 64 jobs in it; the

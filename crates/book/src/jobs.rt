@@ -2,9 +2,9 @@
 
 use crate::tasks::Task;
 
-pub mod counted;
-pub mod releases;
-pub mod walk;
+mod counted;
+mod releases;
+mod walk;
 
 /// One job of a task: the place and the task, and the tick of its release.
 #[derive(Clone, Copy)]

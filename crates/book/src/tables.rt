@@ -6,7 +6,7 @@ ghost use lib.ListN.{take};
 ghost use Rattle.book.specs.Pairs.{lawful};
 use analysis::Pair;
 
-pub mod build;
+mod build;
 
 /// A time table: its first `len` pairs, whose times rise strictly and whose weights, of at least 1, add up to at most 65,535.
 #[derive(Clone, Copy)]

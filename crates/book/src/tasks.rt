@@ -3,8 +3,8 @@ ghost use mathlib.Core.Path.{_≡_};
 ghost use lib.ListN.{length};
 use crate::tables::TimeTable;
 
-pub mod counts;
-pub mod places;
+mod counts;
+mod places;
 
 /// A periodic task: what was entered at a place.
 #[derive(Clone, Copy)]

@@ -2,50 +2,42 @@ ghost use Rattle.theory.specs.Theorems.{Pushforward, Late, Never-better, Never
 ghost use Rattle.theory.specs.Rounded.{Rounded, By-cells};
 use super::weight::Weight;
 
-pub fn pushforward_stands<W: Weight>() -> u8
+/// Each cell of a walk's sheet holds the weights of exactly the scenarios that end there.
+pub fn pushforward_stands<W: Weight>()
     ensures { λ _. ⌜ Pushforward ops ⌝ }
-{
-    0
-}
+{}
 
-pub fn late_stands<W: Weight>() -> u8
+/// The late weight is that of exactly the scenarios that end after the deadline.
+pub fn late_stands<W: Weight>()
     ensures { λ _. ⌜ Late ops ⌝ }
-{
-    0
-}
+{}
 
-pub fn never_better_stands<W: Weight>() -> u8
+/// Worse tables, over the same moves, keep a worse sheet worse.
+pub fn never_better_stands<W: Weight>()
     ensures { λ _. ⌜ Never-better ops least ⌝ }
-{
-    0
-}
+{}
 
-pub fn never_later_stands<W: Weight>() -> u8
+/// Worse tables never make the late weight of a whole walk smaller.
+pub fn never_later_stands<W: Weight>()
     ensures { λ _. ⌜ Never-later ops least ⌝ }
-{
-    0
-}
+{}
 
-pub fn moves_fair_stands() -> u8
-    ensures { λ _. ⌜ Moves-fair ⌝ }
-{
-    0
-}
-
-pub fn rounded_stands() -> u8
-    ensures { λ _. ⌜ Rounded ⌝ }
-{
-    0
-}
-
-pub fn by_cells_stands() -> u8
-    ensures { λ _. ⌜ By-cells ⌝ }
-{
-    0
-}
-
-pub fn never_later_told_stands<W: Weight>() -> u8
+/// The same, told of the scenarios alone.
+pub fn never_later_told_stands<W: Weight>()
     ensures { λ _. ⌜ Never-later-told ops least ⌝ }
-{
-    0
-}
+{}
+
+/// Passing and adding, and adding from a place, are moves of the kind that the theorems ask for.
+pub fn moves_fair_stands()
+    ensures { λ _. ⌜ Moves-fair ⌝ }
+{}
+
+/// The rounded tails are never below the exact ones, and above them by less than one for each table.
+pub fn rounded_stands()
+    ensures { λ _. ⌜ Rounded ⌝ }
+{}
+
+/// The rounded walk can be kept as a sheet of cells.
+pub fn by_cells_stands()
+    ensures { λ _. ⌜ By-cells ⌝ }
+{}

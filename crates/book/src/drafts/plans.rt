@@ -9,8 +9,8 @@ ghost use Rattle.book.specs.Places.{place-of};
 use crate::drafts::Draft;
 use crate::tasks::Task;
 
-pub mod asks;
-pub mod rounds;
+mod asks;
+mod rounds;
 
 /// An issued book: it answers questions, and is reopened to be edited.
 #[derive(Drop)]

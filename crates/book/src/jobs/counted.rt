@@ -18,7 +18,7 @@ use analysis::Ranking;
 
 impl Job {
     /// The tick at which the job's deadline falls.
-    pub fn due(&self) -> u32
+    pub(crate) fn due(&self) -> u32
         requires { ⌜ due (job-of (now self)) ≤ 32768 ⌝ }
         ensures { λ r. ⌜ r ≡ due (job-of (now (self .entry))) ⌝ }
     {
@@ -29,11 +29,16 @@ impl Job {
     fn rank<R: Ranking>(&self, rule: &R) -> u64
         ensures { λ r. ⌜ r ≡ rank (R·Ranking .ranks (now (rule .entry))) (job-of (now (self .entry))) ⌝ }
     {
-        rule.rank(self.place, self.task.period, self.task.deadline, self.release as u64)
+        rule.rank(
+            self.place,
+            self.task.period,
+            self.task.deadline,
+            self.release as u64,
+        )
     }
 
     /// Whether the job goes ahead of the other: by the lower rank, then the earlier release, then the lower place.
-    pub fn is_ahead<R: Ranking>(&self, rule: &R, other: &Job) -> bool
+    pub(crate) fn is_ahead<R: Ranking>(&self, rule: &R, other: &Job) -> bool
         ensures { λ r. ⌜ r ≡ ahead (R·Ranking .ranks (now (rule .entry))) (job-of (now (self .entry))) (job-of (now (other .entry))) ⌝ }
     {
         let mine = self.rank(rule);
@@ -74,7 +79,7 @@ impl Entries {
 
 impl Entries {
     /// Before the first counted job of `job`.
-    pub fn before_counted(&self, job: &Job) -> Cursor
+    pub(crate) fn before_counted(&self, job: &Job) -> Cursor
         requires { ⌜ all-lawful (places (now self)) ≡ true ⌝ ∗ ⌜ Stands (places (now self)) (job-of (now job)) ⌝ }
         ensures { λ r. ⌜ ((rule : Rule) → left rule (places (now (self .entry))) (job-of (now (job .entry))) r ≡ counted rule (places (now (self .entry))) (job-of (now (job .entry)))) ⌝ }
     {
@@ -99,11 +104,20 @@ impl Entries {
         }
         cursor.tick = self.next_release(tick + 1, job.due());
         cursor.place = 0;
-        if tick == job.release { Some(*job) } else { None }
+        if tick == job.release {
+            Some(*job)
+        } else {
+            None
+        }
     }
 
     /// The next counted job after the cursor, which goes on past it.
-    pub fn next_counted<R: Ranking>(&self, rule: &R, job: &Job, cursor: &mut Cursor) -> Option<Job>
+    pub(crate) fn next_counted<R: Ranking>(
+        &self,
+        rule: &R,
+        job: &Job,
+        cursor: &mut Cursor,
+    ) -> Option<Job>
         requires { ⌜ all-lawful (places (now self)) ≡ true ⌝ ∗ ⌜ Stands (places (now self)) (job-of (now job)) ⌝ }
         ensures finds { λ r. ⌜ Cases r (left (R·Ranking .ranks (now (rule .entry))) (places (now (self .entry))) (job-of (now (job .entry))) (now (cursor .entry)) ≡ []) (λ k. left (R·Ranking .ranks (now (rule .entry))) (places (now (self .entry))) (job-of (now (job .entry))) (now (cursor .entry)) ≡ job-of k ∷ left (R·Ranking .ranks (now (rule .entry))) (places (now (self .entry))) (job-of (now (job .entry))) (now (cursor .exit))) ⌝ }
         ensures soon { λ r. ⌜ Cases r (Unit {0}) (λ k. k .release < due (job-of (now (job .entry)))) ⌝ }

@@ -11,7 +11,7 @@ use crate::tasks::Task;
 
 impl Task {
     /// The release of job `index`.
-    pub fn release_of(&self, index: u32) -> u32
+    pub(crate) fn release_of(&self, index: u32) -> u32
         requires { ⌜ index ≤ 32768 ⌝ }
         ensures { λ r. ⌜ r ≡ release-of (entry-of (now (self .entry))) index ⌝ }
     {
@@ -19,7 +19,7 @@ impl Task {
     }
 
     /// Whether a job is released at the tick.
-    pub fn releases_at(&self, tick: u32) -> bool
+    pub(crate) fn releases_at(&self, tick: u32) -> bool
         requires { ⌜ 1 ≤ now self .period ⌝ }
         ensures { λ r. ⌜ r ≡ releases (entry-of (now (self .entry))) tick ⌝ }
     {
@@ -28,7 +28,7 @@ impl Task {
     }
 
     /// The first tick from `from` on at which a job is released.
-    pub fn next_release(&self, from: u32) -> u32
+    pub(crate) fn next_release(&self, from: u32) -> u32
         requires { ⌜ 1 ≤ now self .period ⌝ ∗ ⌜ from ≤ 1048576 ⌝ }
         ensures low { λ r. ⌜ from ≤ r ⌝ }
         ensures none { λ r. ⌜ ((k : ℕ) → from ≤ k → k < r → releases (entry-of (now (self .entry))) k ≡ false) ⌝ }
@@ -39,13 +39,17 @@ impl Task {
             return phase;
         }
         let since = (from - phase) % period;
-        if since == 0 { from } else { from + (period - since) }
+        if since == 0 {
+            from
+        } else {
+            from + (period - since)
+        }
     }
 }
 
 impl Entries {
     /// The first tick from `from` on at which some job is released, or `end` where that is earlier.
-    pub fn next_release(&self, from: u32, end: u32) -> u32
+    pub(crate) fn next_release(&self, from: u32, end: u32) -> u32
         requires { ⌜ all-lawful (places (now self)) ≡ true ⌝ ∗ ⌜ from ≤ end ⌝ ∗ ⌜ end ≤ 1048576 ⌝ }
         ensures { λ r. ⌜ Skips (places (now (self .entry))) from end r ⌝ }
     {

@@ -101,7 +101,7 @@ impl Entries {
 
 impl Entries {
     /// The rounded late weight of a job, by a walk on a sheet of 257 cells, which is left nought.
-    pub fn rounded_late<R: Ranking>(
+    pub(crate) fn rounded_late<R: Ranking>(
         &self,
         rule: &R,
         job: &Job,

@@ -24,7 +24,7 @@ fn common(a: u16, b: u16) -> Option<u16>
 
 impl Entries {
     /// The hyperperiod, or 4,097 where it is above 4,096.
-    pub fn hyperperiod(&self) -> u16
+    pub(crate) fn hyperperiod(&self) -> u16
         requires { ⌜ all-lawful (places (now self)) ≡ true ⌝ }
         ensures { λ r. ⌜ r ≡ hyperperiod (places (now (self .entry))) ⌝ }
     {
@@ -41,7 +41,7 @@ impl Entries {
     }
 
     /// How many jobs are released in `h` ticks, where each period divides `h`.
-    pub fn jobs(&self, h: u16) -> u32
+    pub(crate) fn jobs(&self, h: u16) -> u32
         requires { ⌜ all-lawful (places (now self)) ≡ true ⌝ }
         ensures { λ r. ⌜ r ≡ jobs (places (now (self .entry))) h ⌝ }
     {

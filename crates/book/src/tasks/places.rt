@@ -9,14 +9,14 @@ use crate::tasks::Task;
 
 impl Entries {
     /// No task at any place.
-    pub fn empty() -> Entries
+    pub(crate) fn empty() -> Entries
         ensures { λ r. ⌜ places r ≡ replicate 16 None ⌝ }
     {
         Entries { at: [None; 16] }
     }
 
     /// What stands at a place.
-    pub fn get(&self, place: u8) -> Option<Task>
+    pub(crate) fn get(&self, place: u8) -> Option<Task>
         requires { ⌜ place < 16 ⌝ }
         ensures { λ r. ⌜ place-of r ≡ getD (places (now (self .entry))) place None ⌝ }
     {
@@ -24,7 +24,7 @@ impl Entries {
     }
 
     /// Puts a task at a place, and leaves the others.
-    pub fn put(&mut self, place: u8, task: Task)
+    pub(crate) fn put(&mut self, place: u8, task: Task)
         requires { ⌜ place < 16 ⌝ }
         ensures { λ _. ⌜ places (now (self .exit)) ≡ set (places (now (self .entry))) place (Some (entry-of task)) ⌝ }
     {
@@ -32,7 +32,7 @@ impl Entries {
     }
 
     /// Clears a place, and leaves the others.
-    pub fn clear(&mut self, place: u8)
+    pub(crate) fn clear(&mut self, place: u8)
         requires { ⌜ place < 16 ⌝ }
         ensures { λ _. ⌜ places (now (self .exit)) ≡ set (places (now (self .entry))) place None ⌝ }
     {

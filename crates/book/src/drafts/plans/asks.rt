@@ -59,8 +59,7 @@ impl Plan {
         ensures { λ r. ⌜ Cases r (λ v. (v ≡ rounded-late (R·Ranking .ranks (now (rule .entry))) (plan-book (now (self .entry))) (job-of (now (job .entry)))) × (v ≤ 1048576) × (cells count-ops (now (sheet .exit)) ≡ cleared count-ops (cells count-ops (now (sheet .entry))))) (λ _. ⊥) ⌝ }
     {
         let opening = self.draft.opening.pairs();
-        let late = self
-            .draft
+        let late = self.draft
             .entries
             .rounded_late(rule, job, opening, &mut sheet[0..257])?;
         Ok(late)

@@ -9,6 +9,6 @@ pub returns : need.returns
 returns g c =
     record {
       finds = sym (c .loop-cursor .inv .0)
-    ∙ left-none (g .R·Ranking .ranks (c .args .rule .now)) (places (c .args .self .now)) (job-of (c .args .job .now)) (c .loop-cursor .cursor .tick) (c .loop-cursor .cursor .place) (omega (arith, c .loop-cursor .inv .1));
+          ∙ left-none (g .R·Ranking .ranks (c .args .rule .now)) (places (c .args .self .now)) (job-of (c .args .job .now)) (c .loop-cursor .cursor .tick) (c .loop-cursor .cursor .place) (omega (arith, c .loop-cursor .inv .1));
       soon = tt;
     }

@@ -22,15 +22,15 @@ loop-place-again c =
     let inv = c .loop-place .inv in
     elim (c .match-get .came) [
       | in-Some w ↦ (
-          omega (arith, w .next-is),
-          omega (arith, w .next-is),
-          below-more _ _
-              (λ p lt k le l. inv .2 p lt k le (omega (arith, w .next-is)))
-              (λ k le l. ap (λ x. quiet x k) (sym (w .in-Some .ensures tt)) ∙ ap not (w .next-release .ensures .none k le (omega (arith, w .next-is))))
-        )
+        omega (arith, w .next-is),
+        omega (arith, w .next-is),
+        below-more _ _
+            (λ p lt k le l. inv .2 p lt k le (omega (arith, w .next-is)))
+            (λ k le l. ap (λ x. quiet x k) (sym (w .in-Some .ensures tt)) ∙ ap not (w .next-release .ensures .none k le (omega (arith, w .next-is)))),
+      )
       | in-rest w ↦ (
-          omega (arith, w .next-is),
-          omega (arith, w .next-is),
-          below-more _ _ (λ p lt k le l. inv .2 p lt k le (omega (arith, w .next-is))) (λ k le l. ap (λ x. quiet x k) (sym (w .in-rest .ensures tt)))
-        )
+        omega (arith, w .next-is),
+        omega (arith, w .next-is),
+        below-more _ _ (λ p lt k le l. inv .2 p lt k le (omega (arith, w .next-is))) (λ k le l. ap (λ x. quiet x k) (sym (w .in-rest .ensures tt))),
+      )
     ]

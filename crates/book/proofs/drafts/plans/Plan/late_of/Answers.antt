@@ -19,8 +19,7 @@ returns g c =
     let told = c .in-Continue-late .ensures tt in
     let is = told .0 ∙ ap (λ ps. late-over rule (b .places) ps j) (c .pairs-opening .ensures) in
     let P : ℕ → Type 0 = λ n. n ≤ 1048576 in
-    let long : length (c .rounded-late .last .sheet) ≡ 257 = search needs in
-    (
+    let long : length (c .rounded-late .last .sheet) ≡ 257 = search needs in (
       is,
       subst P (sym is) (late-bound rule (b .places) (b .opening) j),
       swept-part (c .args .sheet .now) (c .rounded-late .last .sheet) long (told .1),

@@ -24,8 +24,7 @@ loop-i-again g c =
     let i = c .loop-i .i in
     let told = c .in-Continue-late .ensures tt in
     let inv = c .loop-i .inv in
-    let one = told .0 ∙ ap (λ r. rounded-late rule b (record { place = x .place; entry = e; release = r })) (c .release-of .ensures) in
-    (
+    let one = told .0 ∙ ap (λ r. rounded-late rule b (record { place = x .place; entry = e; release = r })) (c .release-of .ensures) in (
       ap (λ n. n + c .in-Continue-late .field-0) (inv .0) ∙ ap (λ n. late-sum rule b (x .place) e (x .first) i + n) one ∙ sym (late-more rule b (x .place) e (x .first) i),
       omega (arith, inv .1, told .1),
       told .2 ∙ ap (cleared count-ops) (inv .2 ∙ c .in-Continue-clear .ensures tt .1) ∙ cleared-twice count-ops (cells count-ops (c .args .sheet .now)) ∙ sym (c .in-Continue-clear .ensures tt .1),

@@ -1,6 +1,0 @@
-use borrow.Author.Needs.{needs}
-use Rattle.analysis.specs.Counts.{same-count}
-use Rattle.analysis.proofs.rounding.difference.Needs as need
-
-pub returns : need.returns
-returns c = same-count _ _ (search needs)
