@@ -38,7 +38,7 @@ granted-in b place i e is early soon =
     ∙ ap (granted b) (cond-true (ltb (release-of e i) (window b)) (Some (job-at place e i)) None (lt-ltb (release-of e i) (window b) early))
     ∙ cond-true (within b (job-at place e i)) (Ok (job-at place e i)) (Err 12) (le-leb (due (job-at place e i)) (window b) soon))
 
-pub stands-in : (ps : List (Option Entry)) (place i : ℕ) (e : Entry) → length ps ≡ 16 → getD ps place None ≡ Some e → due (job-at place e i) ≤ 32768 → Stands ps (job-at place e i)
-stands-in ps place i e long is soon =
+pub stands-in : (ps : List (Option Entry)) (place i : ℕ) (e : Entry) → length ps ≡ 16 → getD ps place None ≡ Some e → due (job-at place e i) ≤ 32768 → 1 ≤ e .deadline → Stands ps (job-at place e i)
+stands-in ps place i e long is soon pos =
     let low = held-low ps place e is in
-    record { place-low = omega arith; at-place = is; released = released-at e i; soon = soon }
+    record { place-low = omega arith; at-place = is; released = released-at e i; soon = soon; deadline-low = pos }

@@ -12,13 +12,14 @@ use Rattle.std.proofs.shelf.Tests.{cases-lt, cases-bool, lt-ltb, le-ltb}
 use Rattle.theory.specs.Semiring.{Ops}
 use Rattle.analysis.specs.declared.pair.Pair.{Pair}
 use Rattle.analysis.specs.declared.count.Count.{Count}
-use Rattle.analysis.specs.Counts.{count-ops}
+use Rattle.analysis.specs.Counts.{count-ops, counted as count-of}
+use Rattle.scenarios.specs.Walks.{lone}
 use Rattle.analysis.specs.Cells.{span, tail, total, passed, added, over, first, fresh, arriving, beyond}
 use Rattle.analysis.proofs.Steps.{same-cells}
 use Rattle.analysis.proofs.Kept.{tail-most, passed-bound, added-bound, rounded-bound}
 use Rattle.book.specs.Model.{Entry, Book}
 use Rattle.book.specs.Jobs.{Rule, Job, counted}
-use Rattle.book.specs.Walk.{settled, Walk, whole, begun, stepped, walked, late-over, rounded-late}
+use Rattle.book.specs.Walk.{settled, Walk, begun, stepped, walked, late-over}
 
 module _ {K : Type 0} (o : Ops K) (f : ℕ → K) where
   fresh-none : (low : ℕ) (p : Pair) → 256 ≤ low → fresh o low f p ≡ o .product (o .nought) (o .read (p .weight))
@@ -59,12 +60,12 @@ settled-bound : (low : ℕ) (table : List Pair) (f : ℕ → Count) (m : ℕ) �
 unfolding settled
 settled-bound low table f m h = rounded-bound (total count-ops table .value) (added count-ops low f table) m (added-any low f table m h)
 
-whole-tail : tail count-ops whole 0 .value ≡ 1048576
+whole-tail : tail count-ops (lone count-ops (count-of 1048576)) 0 .value ≡ 1048576
 whole-tail = refl
 
 begun-bound : (opening : List Pair) → tail count-ops (begun opening .sheet) 0 .value ≤ 1048576
 unfolding begun
-begun-bound opening = settled-bound 0 opening whole 1048576 (omega (arith, whole-tail))
+begun-bound opening = settled-bound 0 opening (lone count-ops (count-of 1048576)) 1048576 (omega (arith, whole-tail))
 
 stepped-bound : (a : ℕ) (w : Walk) (k : Job) (m : ℕ) → tail count-ops (w .sheet) 0 .value ≤ m → tail count-ops (stepped a w k .sheet) 0 .value ≤ m
 stepped-bound a w k m h =

@@ -10,11 +10,11 @@ use lib.Dec.{eqb, ltb, leb, lit<}
 use lib.ListN.{length, drop, getD}
 use Rattle.std.specs.declared.option.Option.{Option}
 use Rattle.std.specs.declared.option.Option.the-variants.{Some, None}
-use Rattle.std.proofs.shelf.Lists.{at-drop-more, drop-all, append-assoc}
-use Rattle.std.proofs.shelf.Tests.{cases-lt, cases-eq, cases-bool, and-left, cond-true, cond-false, lt-ltb, le-ltb, ne-eqb, both-ways, not-from-true, not-true}
+use Rattle.std.proofs.shelf.Lists.{at-drop-more, drop-all, append-assoc, append-nil}
+use Rattle.std.proofs.shelf.Tests.{cases-lt, cases-eq, cases-bool, and-left, cond-true, cond-false, lt-ltb, le-ltb, ne-eqb, eq-eqb, both-ways, not-from-true, not-true}
 use Rattle.book.specs.Model.{Entry}
-use Rattle.book.specs.Jobs.{Rule, Job, due, ahead, releases, ahead-at, ahead-from, own, counted-in, counted}
-use Rattle.book.specs.Found.{left-from, quiet, Stands, Skips}
+use Rattle.book.specs.Jobs.{Rule, Job, due, ahead, releases, ahead-at, ahead-from, ahead-in, counted-before, counted-later, counted}
+use Rattle.book.specs.Found.{own, counted-in, left-from, quiet, Stands, Skips}
 
 module _ (rule : Rule) (ps : List (Option Entry)) (j : Job) where
   quiet-at : (q : ℕ) (x : Option Entry) (t : ℕ) → quiet x t ≡ true → ahead-at rule j q x t ≡ []
@@ -81,12 +81,49 @@ module _ (rule : Rule) (ps : List (Option Entry)) (j : Job) where
       cond-false _ _ _ (le-ltb t (due j) ge) ∙ ap (λ m. counted-in rule ps j m t) e)
       (cases-lt t (due j))
 
-  pub left-first : (r : ℕ) → length ps ≡ 16 → Stands ps j → Skips ps 0 (due j) r → left-from rule ps j r 0 ≡ counted rule ps j
+  own-none : (t : ℕ) → (t ≡ j .release → ⊥) → own j t ≡ []
+  own-none t other = cond-false _ _ _ (ne-eqb t (j .release) other)
+
+  -- after its release the job itself is not met again
+  after-own : (n t : ℕ) → j .release < t → counted-in rule ps j n t ≡ ahead-in rule ps j n t
+  unfolding counted-in ahead-in
+  after-own zero t lt = refl
+  after-own (suc n) t lt =
+      ap (λ ys. ahead-from rule j 0 ps t ++ (ys ++ counted-in rule ps j n (t + 1))) (own-none t (λ e. omega arith))
+      ∙ ap (λ ys. ahead-from rule j 0 ps t ++ ys) (after-own n (t + 1) (omega arith))
+
+  -- with k ticks to go to its release, and m after it
+  around-own : (k m t : ℕ) → t + k ≡ j .release → counted-in rule ps j (suc (k + m)) t ≡ ahead-in rule ps j (suc k) t ++ (j ∷ ahead-in rule ps j m (j .release + 1))
+  unfolding counted-in ahead-in
+  around-own zero m t e =
+      let here : t ≡ j .release = omega arith in
+      let zm : zero + m ≡ m = omega arith in
+      ap (λ ys. ahead-from rule j 0 ps t ++ (ys ++ counted-in rule ps j (zero + m) (t + 1))) (cond-true _ _ _ (eq-eqb t (j .release) here))
+      ∙ ap (λ n. ahead-from rule j 0 ps t ++ (j ∷ counted-in rule ps j n (t + 1))) zm
+      ∙ ap (λ ys. ahead-from rule j 0 ps t ++ (j ∷ ys)) (after-own m (t + 1) (omega arith) ∙ ap (λ x. ahead-in rule ps j m (x + 1)) here)
+      ∙ ap (λ ys. ys ++ (j ∷ ahead-in rule ps j m (j .release + 1))) (sym (append-nil (ahead-from rule j 0 ps t)))
+  around-own (suc k) m t e =
+      let s : suc k + m ≡ suc (k + m) = omega arith in
+      ap (λ ys. ahead-from rule j 0 ps t ++ (ys ++ counted-in rule ps j (suc k + m) (t + 1))) (own-none t (λ x. omega arith))
+      ∙ ap (λ n. ahead-from rule j 0 ps t ++ counted-in rule ps j n (t + 1)) s
+      ∙ ap (λ ys. ahead-from rule j 0 ps t ++ ys) (around-own k m (t + 1) (omega arith))
+      ∙ sym (append-assoc (ahead-from rule j 0 ps t) (ahead-in rule ps j (suc k) (t + 1)) (j ∷ ahead-in rule ps j m (j .release + 1)))
+
+  all-counted : 1 ≤ j .entry .deadline → counted-in rule ps j (due j) 0 ≡ counted rule ps j
   unfolding counted
+  all-counted pos =
+      let a = j .release in
+      let m = j .entry .deadline - 1 in
+      let n : due j ≡ suc (a + m) = omega arith in
+      let z : 0 + a ≡ a = omega arith in
+      let b : suc a ≡ a + 1 = omega arith in
+      ap (λ x. counted-in rule ps j x 0) n ∙ around-own a m 0 z ∙ ap (λ x. ahead-in rule ps j x 0 ++ (j ∷ ahead-in rule ps j m (a + 1))) b
+
+  pub left-first : (r : ℕ) → length ps ≡ 16 → Stands ps j → Skips ps 0 (due j) r → left-from rule ps j r 0 ≡ counted rule ps j
   left-first r long s h =
       let high = h .high in
       let z : due j - 0 ≡ due j = omega arith in
-      left-start r high ∙ sym (jump 0 r long s h) ∙ ap (λ m. counted-in rule ps j m 0) z
+      left-start r high ∙ sym (jump 0 r long s h) ∙ ap (λ m. counted-in rule ps j m 0) z ∙ all-counted (s .deadline-low)
 
   -- one place of a tick
   pub left-place : (t p : ℕ) → t < due j → p < length ps → left-from rule ps j t p ≡ ahead-at rule j p (getD ps p None) t ++ left-from rule ps j t (p + 1)

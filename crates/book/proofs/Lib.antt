@@ -12,3 +12,6 @@ pub mod Window
 pub mod Asked
 pub mod Rounds
 pub mod Plans
+pub mod Reach
+pub mod Walked
+pub mod Sound

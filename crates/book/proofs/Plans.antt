@@ -23,7 +23,7 @@ use Rattle.book.specs.Drafts.{plan-book}
 use Rattle.book.specs.Model.{Entry, Book, hyperperiod, window}
 use Rattle.book.specs.Jobs.{Rule, due, release-of}
 use Rattle.book.specs.Found.{Stands}
-use Rattle.book.specs.Walk.{rounded-late}
+use Rattle.book.specs.Asks.{rounded-late}
 use Rattle.book.specs.Batches.{Is-batch, Ready}
 use Rattle.book.specs.Places.{place-of, entry-of}
 use Rattle.book.specs.Asks.{Released-in, round-jobs, job-at, late-sum, long, all-within, task-of, task-answer}
@@ -61,7 +61,7 @@ ready-stands p x i r ready lt is =
     let j = job-at (x .place) e (x .first + i) in
     let P : ℕ → Type 0 = λ t. Stands (b .places) (record { place = x .place; entry = e; release = t }) in
     let soon : due j ≤ 32768 = le-trans (leb-true (due j) (window b) (each-inside b (x .place) e (x .first) (x .jobs) i lt (ready .inside))) (window-high (b .places) (b .rounds) (p .draft .sound)) in
-    subst P (sym is) (stands-in (b .places) (x .place) (x .first + i) e (plan-long p) (ready .held) soon)
+    subst P (sym is) (stands-in (b .places) (x .place) (x .first + i) e (plan-long p) (ready .held) soon (plan-ranges p (x .place) e (ready .held) .deadline-low))
 
 -- THE QUESTION OF A ROUND
 few-before : (round n rounds : ℕ) → round < rounds → rounds ≤ 8 → n ≤ 64 → round * n ≤ 512

@@ -14,7 +14,7 @@ use Rattle.analysis.specs.Counts.{count-ops, counted, same-count}
 use Rattle.theory.specs.Semiring.{Ops}
 use Rattle.analysis.specs.Cells.{cells, cleared, tail, tailed}
 use Rattle.analysis.proofs.Steps.{put, cells-set, same-cells}
-use Rattle.book.specs.Walk.{whole}
+use Rattle.scenarios.specs.Walks.{lone}
 
 -- a cleared sheet of 257 cells is nought at every place
 pub cleared-nought : (xs : List Count) (k : ℕ) → length xs ≡ 257 → cleared count-ops (cells count-ops xs) k ≡ counted 0
@@ -24,14 +24,14 @@ cleared-nought xs k long =
     (λ (h : 257 ≤ k). cond-false _ _ _ (le-ltb k 257 h) ∙ getD-past xs k (counted 0) (omega arith))
     (cases-lt k 257)
 
-put-whole : (f : ℕ → Count) (y : Count) → ((k : ℕ) → f k ≡ counted 0) → y .value ≡ 1048576 → (k : ℕ) → put f 0 y k ≡ whole k
+put-whole : (f : ℕ → Count) (y : Count) → ((k : ℕ) → f k ≡ counted 0) → y .value ≡ 1048576 → (k : ℕ) → put f 0 y k ≡ lone count-ops (counted 1048576) k
 put-whole f y none is k =
     ⊎-elim
     (λ (e : k ≡ 0). cond-true _ _ _ (eq-eqb k 0 e) ∙ (same-count y (counted 1048576) is ∙ sym (cond-true _ _ _ (eq-eqb k 0 e))))
     (λ (e : k ≡ 0 → ⊥). cond-false _ _ _ (ne-eqb k 0 e) ∙ (none k ∙ sym (cond-false _ _ _ (ne-eqb k 0 e))))
     (cases-eq k 0)
 
-pub whole-laid : (old xs : List Count) (y : Count) → length old ≡ 257 → length xs ≡ 257 → cells count-ops xs ≡ cleared count-ops (cells count-ops old) → y .value ≡ 1048576 → cells count-ops (set xs 0 y) ≡ whole
+pub whole-laid : (old xs : List Count) (y : Count) → length old ≡ 257 → length xs ≡ 257 → cells count-ops xs ≡ cleared count-ops (cells count-ops old) → y .value ≡ 1048576 → cells count-ops (set xs 0 y) ≡ lone count-ops (counted 1048576)
 whole-laid old xs y long kept e is =
     cells-set count-ops xs 0 y (omega arith)
     ∙ same-cells (put-whole (cells count-ops xs) y (λ k. ap (λ f. f k) e ∙ cleared-nought old k long) is)

@@ -13,7 +13,8 @@ use Rattle.analysis.specs.Cells.{cleared}
 use Rattle.book.specs.declared.lateness.TaskLateness.{TaskLateness}
 use Rattle.book.specs.Model.{Entry, Book, hyperperiod, window}
 use Rattle.book.specs.Jobs.{Rule, Job, due, release-of, asked}
-use Rattle.book.specs.Walk.{rounded-late}
+use Rattle.scenarios.specs.Walks.{rounded-late as late-of-question}
+use Rattle.book.specs.Questions.{question-of}
 
 -- two sheets that both have 257 cells or more, by their lengths
 abbrev pub long : ℕ → ℕ → Bool
@@ -27,6 +28,10 @@ within b j = leb (due j) (window b)
 abbrev pub granted : Book → Option Job → Result Job ℕ
 granted b None = Err 11
 granted b (Some j) = cond (within b j) (Ok j) (Err 12)
+
+-- the rounded late weight of a job
+unfoldable pub rounded-late : Rule → Book → Job → ℕ
+rounded-late rule b j = late-of-question (question-of rule b j)
 
 abbrev pub rounded-of : Rule → Book → Result Job ℕ → Result ℕ ℕ
 rounded-of rule b (Ok j) = Ok (rounded-late rule b j)

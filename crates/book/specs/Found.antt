@@ -1,9 +1,9 @@
 -- The model's job that a job of the code stands for, and what is left of the counted jobs where a cursor stands.
-use Prim.Native.Nat.{ℕ, _+_, _-_, _*_, _<_, _≤_}
+use Prim.Native.Nat.{ℕ, zero, suc, _+_, _-_, _*_, _<_, _≤_}
 use mathlib.Core.Path.{_≡_}
-use mathlib.Core.List.{List, [], _++_}
+use mathlib.Core.List.{List, [], _∷_, _++_}
 use mathlib.Core.Bool.{Bool, true, false, cond, not}
-use lib.Dec.{ltb}
+use lib.Dec.{ltb, eqb}
 use lib.ListN.{getD, drop}
 use Rattle.std.specs.declared.option.Option.{Option}
 use Rattle.std.specs.declared.option.Option.the-variants.{Some, None}
@@ -11,10 +11,19 @@ use Rattle.book.specs.declared.jobs.Job.{Job as Found}
 use Rattle.book.specs.declared.jobs.Cursor.{Cursor}
 use Rattle.book.specs.Model.{Entry}
 use Rattle.book.specs.Places.{entry-of}
-use Rattle.book.specs.Jobs.{Rule, Job, due, releases, ahead-from, own, counted-in}
+use Rattle.book.specs.Jobs.{Rule, Job, due, releases, ahead-from}
 
 abbrev pub job-of : Found → Job
 job-of j = record { place = j .place; entry = entry-of (j .task); release = j .release }
+
+-- j itself, at the tick of its release
+abbrev pub own : Job → ℕ → List Job
+own j t = cond (eqb t (j .release)) (j ∷ []) []
+
+-- the counted jobs that are released in the n ticks from t on
+unfoldable pub counted-in : Rule → List (Option Entry) → Job → ℕ → ℕ → List Job
+counted-in rule ps j zero t = []
+counted-in rule ps j (suc n) t = ahead-from rule j 0 ps t ++ (own j t ++ counted-in rule ps j n (t + 1))
 
 -- what is left of the counted jobs from a place of a tick on
 unfoldable pub left-from : Rule → List (Option Entry) → Job → ℕ → ℕ → List Job
@@ -34,6 +43,7 @@ pub record Stands (ps : List (Option Entry)) (j : Job) : Type 0 where
   pub at-place : getD ps (j .place) None ≡ Some (j .entry)
   pub released : releases (j .entry) (j .release) ≡ true
   pub soon : due j ≤ 32768
+  pub deadline-low : 1 ≤ j .entry .deadline
 
 -- no job of the entry is released at tick t
 abbrev pub quiet : Option Entry → ℕ → Bool

@@ -48,18 +48,22 @@ abbrev pub ahead-from : Rule → Job → ℕ → List (Option Entry) → ℕ →
 ahead-from rule j p [] t = []
 ahead-from rule j p (x ∷ xs) t = ahead-at rule j p x t ++ ahead-from rule j (p + 1) xs t
 
--- j itself, at the tick of its release
-abbrev pub own : Job → ℕ → List Job
-own j t = cond (eqb t (j .release)) (j ∷ []) []
+-- the jobs ahead of j that are released in the n ticks from t on: by release, then by place
+unfoldable pub ahead-in : Rule → List (Option Entry) → Job → ℕ → ℕ → List Job
+ahead-in rule ps j zero t = []
+ahead-in rule ps j (suc n) t = ahead-from rule j 0 ps t ++ ahead-in rule ps j n (t + 1)
 
--- the counted jobs that are released in the n ticks from t on: by release, then by place, with j last of its tick
-unfoldable pub counted-in : Rule → List (Option Entry) → Job → ℕ → ℕ → List Job
-counted-in rule ps j zero t = []
-counted-in rule ps j (suc n) t = ahead-from rule j 0 ps t ++ (own j t ++ counted-in rule ps j n (t + 1))
+-- the jobs ahead of j that are released at or before its release
+abbrev pub counted-before : Rule → List (Option Entry) → Job → List Job
+counted-before rule ps j = ahead-in rule ps j (j .release + 1) 0
 
--- the counted jobs: j, and the jobs ahead of j that are released before its deadline falls
+-- the jobs ahead of j that are released after its release and before its deadline falls
+abbrev pub counted-later : Rule → List (Option Entry) → Job → List Job
+counted-later rule ps j = ahead-in rule ps j (j .entry .deadline - 1) (j .release + 1)
+
+-- the counted jobs in their order: by release, then by place, with j last of those released with it
 unfoldable pub counted : Rule → List (Option Entry) → Job → List Job
-counted rule ps j = counted-in rule ps j (due j) 0
+counted rule ps j = counted-before rule ps j ++ (j ∷ counted-later rule ps j)
 
 -- the release of job i of a task
 abbrev pub release-of : Entry → ℕ → ℕ

@@ -11,3 +11,4 @@ pub mod Walk
 pub mod Asks
 pub mod Granted
 pub mod Batches
+pub mod Questions

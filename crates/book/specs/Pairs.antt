@@ -6,10 +6,10 @@ use lib.Dec.{leb}
 use lib.ListN.{length}
 use Rattle.analysis.specs.declared.pair.Pair.{Pair}
 
--- the times rise strictly, from low on
+-- the times rise strictly, from low on, up to 255
 abbrev pub rising : ℕ → List Pair → Bool
 rising low [] = true
-rising low (p ∷ ps) = leb low (p .time) && rising (p .time + 1) ps
+rising low (p ∷ ps) = (leb low (p .time) && leb (p .time) 255) && rising (p .time + 1) ps
 
 -- each weight is at least 1
 abbrev pub weighted : List Pair → Bool

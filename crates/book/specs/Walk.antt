@@ -1,15 +1,16 @@
--- The rounded walk over the counted jobs of a job, in counts, and the rounded late weight that it ends with.
+-- The walk over the counted jobs of a job as the code makes it, one after another, in counts and rounded.
 use Prim.Native.Nat.{ℕ, _+_, _-_}
 use mathlib.Core.List.{List, [], _∷_}
 use mathlib.Core.Bool.{cond}
-use lib.Dec.{leb, eqb}
+use lib.Dec.{leb}
+use Rattle.std.specs.declared.option.Option.{Option}
 use Rattle.analysis.specs.declared.pair.Pair.{Pair}
 use Rattle.analysis.specs.declared.count.Count.{Count}
 use Rattle.analysis.specs.Counts.{count-ops, counted as count-of}
 use Rattle.analysis.specs.Cells.{tail, total, passed, added}
 use Rattle.analysis.specs.Rounding.{rounded-off}
-use Rattle.std.specs.declared.option.Option.{Option}
-use Rattle.book.specs.Model.{Entry, Book}
+use Rattle.scenarios.specs.Walks.{lone}
+use Rattle.book.specs.Model.{Entry}
 use Rattle.book.specs.Jobs.{Rule, Job, counted}
 
 -- a table is added from the time low on; then every tail is divided by the table's total, rounded up
@@ -21,15 +22,11 @@ pub record Walk : Type 0 where
   pub last : ℕ
   pub sheet : ℕ → Count
 
--- 1,048,576 at the time 0
-abbrev pub whole : ℕ → Count
-whole k = cond (eqb k 0) (count-of 1048576) (count-of 0)
-
--- the opening table gives tails of 1,048,576 × tail / total, rounded up
+-- 1,048,576 at the time 0, and the opening table added
 unfoldable pub begun : List Pair → Walk
-begun opening = record { last = 0; sheet = settled 0 opening whole }
+begun opening = record { last = 0; sheet = settled 0 opening (lone count-ops (count-of 1048576)) }
 
--- one counted job k, for a job released at a: up to a the gap since the last counted release passes, and the table is added; later the table is added from its release minus a
+-- one counted job k, for a job released at a
 abbrev pub stepped : ℕ → Walk → Job → Walk
 stepped a w k =
     cond (leb (k .release) a)
@@ -41,12 +38,9 @@ walked a w [] = w
 walked a w (k ∷ ks) = walked a (stepped a w k) ks
 
 -- the sheet after the opening table and all counted jobs of j
-abbrev pub rounded-sheet : Rule → List (Option Entry) → List Pair → Job → ℕ → Count
-rounded-sheet rule ps opening j = walked (j .release) (begun opening) (counted rule ps j) .sheet
+abbrev pub walked-sheet : Rule → List (Option Entry) → List Pair → Job → ℕ → Count
+walked-sheet rule ps opening j = walked (j .release) (begun opening) (counted rule ps j) .sheet
 
 -- the tail after the deadline
 abbrev pub late-over : Rule → List (Option Entry) → List Pair → Job → ℕ
-late-over rule ps opening j = tail count-ops (rounded-sheet rule ps opening j) (j .entry .deadline + 1) .value
-
-unfoldable pub rounded-late : Rule → Book → Job → ℕ
-rounded-late rule b j = late-over rule (b .places) (b .opening) j
+late-over rule ps opening j = tail count-ops (walked-sheet rule ps opening j) (j .entry .deadline + 1) .value

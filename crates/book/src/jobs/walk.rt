@@ -11,7 +11,7 @@ ghost use Rattle.book.specs.Model.{all-lawful};
 ghost use Rattle.book.specs.Places.{places};
 ghost use Rattle.book.specs.Jobs.{counted};
 ghost use Rattle.book.specs.Found.{job-of, Stands};
-ghost use Rattle.book.specs.Walk.{settled, begun, stepped, walked, rounded-sheet, late-over};
+ghost use Rattle.book.specs.Walk.{settled, begun, stepped, walked-sheet, late-over};
 use crate::jobs::Job;
 use crate::tasks::Entries;
 use analysis::Count;
@@ -87,7 +87,7 @@ impl Entries {
         sheet: &mut [Count],
     ) -> Result<(), SheetRefusal>
         requires { ⌜ all-lawful (places (now self)) ≡ true ⌝ ∗ ⌜ Stands (places (now self)) (job-of (now job)) ⌝ ∗ ⌜ length (now sheet) ≡ 257 ⌝ }
-        ensures { λ r. ⌜ Cases r (λ _. cells count-ops (now (sheet .exit)) ≡ rounded-sheet (R·Ranking .ranks (now (rule .entry))) (places (now (self .entry))) (now (opening .entry)) (job-of (now (job .entry)))) (λ _. ⊥) ⌝ }
+        ensures { λ r. ⌜ Cases r (λ _. cells count-ops (now (sheet .exit)) ≡ walked-sheet (R·Ranking .ranks (now (rule .entry))) (places (now (self .entry))) (now (opening .entry)) (job-of (now (job .entry)))) (λ _. ⊥) ⌝ }
     {
         begin(sheet, opening)?;
         let mut cursor = self.before_counted(job);

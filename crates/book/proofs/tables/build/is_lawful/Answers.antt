@@ -20,7 +20,7 @@ returns-then-p-low c =
     let d : Pair = record { time = 0; weight = 0 } in
     let p = getD xs i d in
     let lt : i < length xs = omega arith in
-    let a : rising (c .loop-p .low) (drop i xs) ≡ (leb (c .loop-p .low) (p .time) && rising (p .time + 1) (drop (i + 1) xs)) = at-drop-more (rising (c .loop-p .low)) xs i d lt in
+    let a : rising (c .loop-p .low) (drop i xs) ≡ ((leb (c .loop-p .low) (p .time) && leb (p .time) 255) && rising (p .time + 1) (drop (i + 1) xs)) = at-drop-more (rising (c .loop-p .low)) xs i d lt in
     let b : weighted (drop i xs) ≡ (leb 1 (p .weight) && weighted (drop (i + 1) xs)) = at-drop-more weighted xs i d lt in
     elim (c .then-p-low .came) [ then-p-low·by·then-p-low w ↦ grind (arith, tells) | then-p-low·by·else-p-low·then-p-eq0 w ↦ grind (arith, tells) ]
 
@@ -32,7 +32,7 @@ loop-p-again c =
     let d : Pair = record { time = 0; weight = 0 } in
     let p = getD xs i d in
     let lt : i < length xs = omega arith in
-    let a : rising (c .loop-p .low) (drop i xs) ≡ (leb (c .loop-p .low) (p .time) && rising (p .time + 1) (drop (i + 1) xs)) = at-drop-more (rising (c .loop-p .low)) xs i d lt in
+    let a : rising (c .loop-p .low) (drop i xs) ≡ ((leb (c .loop-p .low) (p .time) && leb (p .time) 255) && rising (p .time + 1) (drop (i + 1) xs)) = at-drop-more (rising (c .loop-p .low)) xs i d lt in
     let b : weighted (drop i xs) ≡ (leb 1 (p .weight) && weighted (drop (i + 1) xs)) = at-drop-more weighted xs i d lt in
     let t : weights (drop i xs) ≡ p .weight + weights (drop (i + 1) xs) = at-drop-more weights xs i d lt in
     (grind (arith, tells), grind (arith, tells), omega arith, omega arith)

@@ -7,7 +7,6 @@ use lib.ListN.{length}
 use Rattle.std.proofs.shelf.Lists.{length-map}
 use Rattle.std.proofs.shelf.Tests.{cond-true, cond-false, eq-eqb, ne-eqb}
 use Rattle.book.specs.Places.{places}
-use Rattle.book.specs.Jobs.{own}
 use Rattle.book.specs.Found.{job-of, left-from, Skips}
 use Rattle.book.proofs.Counted.{left-place, left-own}
 use Rattle.book.proofs.tasks.Entries.look.Needs as need

@@ -11,6 +11,7 @@ use Rattle.book.specs.Jobs.{due, release-of}
 use Rattle.book.specs.Asks.{job-at}
 use Rattle.book.specs.Places.{places, place-of, entry-of}
 use Rattle.book.proofs.Asked.{granted-in, stands-in}
+use Rattle.book.proofs.Plans.{plan-ranges}
 use Rattle.book.proofs.drafts.plans.Plan.job.Needs as need
 
 pub returns : need.returns
@@ -24,4 +25,4 @@ returns c =
     let early : release-of e i < window b = omega (arith, c .window-end .ensures .is) in
     let soon : due (job-at place e i) ≤ window b = omega (arith, c .window-end .ensures .is) in
     let most : due (job-at place e i) ≤ 32768 = omega (arith, c .window-end .ensures .bound) in
-    record { finds = granted-in b place i e is early soon; stands = stands-in (b .places) place i e long is most }
+    record { finds = granted-in b place i e is early soon; stands = stands-in (b .places) place i e long is most (plan-ranges (c .args .self .now) place e is .deadline-low) }

@@ -6,7 +6,7 @@ use Rattle.analysis.specs.Counts.{count-ops}
 use Rattle.book.specs.Drafts.{plan-book}
 use Rattle.book.specs.Places.{entry-of}
 use Rattle.book.specs.Asks.{late-sum}
-use Rattle.book.specs.Walk.{rounded-late}
+use Rattle.book.specs.Asks.{rounded-late}
 use Rattle.book.proofs.Plans.{late-more, ready-stands}
 use Rattle.book.proofs.Sheets.{cleared-twice}
 use Rattle.book.proofs.drafts.plans.Plan.sum_late.Needs as need

@@ -1,0 +1,4 @@
+pub mod Processor
+pub mod Questions
+pub mod Walks
+pub mod Theorems
