@@ -13,7 +13,7 @@ use Rattle.std.specs.declared.result.Result.{Result}
 use Rattle.std.specs.declared.result.Result.the-variants.{Ok, Err}
 use Rattle.std.specs.Options.{valueOr}
 use Rattle.std.proofs.shelf.Lists.{at-drop-more, take-more}
-use Rattle.std.proofs.shelf.Tests.{and-parts, and-from, cond-true, cond-false, cases-bool, eq-eqb, ne-eqb, eqb-true, leb-true, le-leb, lt-leb}
+use Rattle.std.proofs.shelf.Tests.{and-parts, and-from, and-left, and-right, cond-true, cond-false, cond-both, cases-bool, eq-eqb, ne-eqb, eqb-true, leb-true, le-leb, lt-leb}
 use Rattle.std.proofs.shelf.Ways.{tells}
 use Rattle.analysis.specs.declared.pair.Pair.{Pair}
 use Rattle.book.specs.Model as model
@@ -27,7 +27,7 @@ use Rattle.planfile.specs.declared.contents.Entry.{Entry}
 use Rattle.planfile.specs.Faults.{Told, file-fault, book-fault}
 use Rattle.planfile.specs.Fields.{byte, word}
 use Rattle.planfile.specs.Contents.{pair-count, blank, placed, sized, entry-number, body-end, entries-fault, contents-fit, contents-end, contents-fault, contents}
-use Rattle.planfile.specs.Bodies.{pairs, body-pairs, task, body-refusal, with-body, wrong-pair, wrong-in, within, table-offset, refusal-offset, bodies-entered}
+use Rattle.planfile.specs.Bodies.{pairs, body-pairs, task, body-refusal, body-entered, and-then, wrong-pair, wrong-in, within, table-offset, refusal-offset, bodies-entered}
 use Rattle.planfile.specs.Loads.{loaded, ended, unless, bodies-end}
 use Rattle.planfile.proofs.Wrong.{length-pairs, lawful-right, wrong-push}
 use Rattle.planfile.proofs.Listed.{number-unplaced, number-unsized}
@@ -38,7 +38,15 @@ no-table place period phase deadline =
     cond (leb place 15) (cond (leb 1 period && leb period 4096) (cond (ltb phase period) (cond (leb 1 deadline && leb deadline 254) 5 4) 3) 2) 1
 
 no-table-refuses : (place period phase deadline : ℕ) → 1 ≤ no-table place period phase deadline
-no-table-refuses place period phase deadline = grind (arith, tells)
+no-table-refuses place period phase deadline =
+    let P : ℕ → Type 0 = λ n. 1 ≤ n in
+    cond-both (leb place 15) _ _ P
+    (λ _. cond-both (leb 1 period && leb period 4096) _ _ P
+    (λ _. cond-both (ltb phase period) _ _ P
+    (λ _. cond-both (leb 1 deadline && leb deadline 254) _ _ P (λ _. omega arith) (λ _. omega arith))
+    (λ _. omega arith))
+    (λ _. omega arith))
+    (λ _. omega arith)
 
 module _ (b : Book) (place period phase deadline : ℕ) where
   abbrev made : List Pair → model.Entry
@@ -73,7 +81,7 @@ module _ (b : Book) (place period phase deadline : ℕ) where
       record { answers = ap (λ x. enter-refusal b place (made x)) e; leaves = ap (λ x. entered b place (made x)) e })
       (λ (t : leb n 16 ≡ false).
       let e : qs ≡ [] = is ∙ cond-false (leb n 16) ps [] t in
-      let p : lawful ps ≡ false = grind (arith, tells) in
+      let p : lawful ps ≡ false = and-right (leb 1 (length ps)) _ (and-left (leb (length ps) 16) _ (ap (λ k. leb k 16) l ∙ t)) in
       let q : lawful qs ≡ false = ap lawful e in
       record { answers = unlawful-refused qs q ∙ sym (unlawful-refused ps p); leaves = unlawful-left qs q ∙ sym (unlawful-left ps p) })
       (cases-bool (leb n 16))
@@ -81,27 +89,52 @@ module _ (b : Book) (place period phase deadline : ℕ) where
 -- an entry that was read from a body
 pub record Entered (f : List ℕ) (b : Book) (e : Entry) (x : model.Entry) : Type 0 where
   pub answers : enter-refusal b (e .place) x ≡ body-refusal f b e
-  pub leaves : entered b (e .place) x ≡ with-body f b e
+  pub leaves : entered b (e .place) x ≡ entered b (e .place) (task f e)
 
-pub body-entered : (f : List ℕ) (b : Book) (e : Entry) (period phase deadline : ℕ) (qs : List Pair)
+pub body-read : (f : List ℕ) (b : Book) (e : Entry) (period phase deadline : ℕ) (qs : List Pair)
     → period ≡ word f (e .start) → phase ≡ word f (e .start + 2) → deadline ≡ byte f (e .start + 4) → qs ≡ cond (leb (pair-count f e) 16) (body-pairs f e) []
     → Entered f b e (record { period = period; phase = phase; deadline = deadline; pairs = qs })
-unfolding body-refusal with-body
-body-entered f b e period phase deadline qs p h d is =
+unfolding body-refusal
+body-read f b e period phase deadline qs p h d is =
     let x : model.Entry = record { period = period; phase = phase; deadline = deadline; pairs = qs } in
     let y : model.Entry = record { period = word f (e .start); phase = word f (e .start + 2); deadline = byte f (e .start + 4); pairs = qs } in
     let same : x ≡ y = cc in
     let a = held-alike b (e .place) (word f (e .start)) (word f (e .start + 2)) (byte f (e .start + 4)) (body-pairs f e) qs (pair-count f e) (length-pairs f (e .start + 6) (pair-count f e)) is in
     record { answers = ap (enter-refusal b (e .place)) same ∙ a .answers; leaves = ap (entered b (e .place)) same ∙ a .leaves }
 
--- a body that is entered has no wrong pair
-pub entered-right : (f : List ℕ) (b : Book) (e : Entry) → body-refusal f b e ≡ 0 → wrong-pair f e ≡ None
+-- what entering a body comes to
+module _ (f : List ℕ) (b : Book) (e : Entry) where
+  pub body-taken : (next : Book) → body-refusal f b e ≡ 0 → next ≡ entered b (e .place) (task f e) → Ok next ≡ body-entered f b e
+  unfolding body-entered
+  body-taken next h k =
+      ap Ok k ∙ sym (cond-true (eqb (body-refusal f b e) 0) _ _ (eq-eqb (body-refusal f b e) 0 h))
+
+  pub body-refused : (n : ℕ) → 1 ≤ n → n ≡ body-refusal f b e → Err (book-fault n (refusal-offset f e n)) ≡ body-entered f b e
+  unfolding body-entered
+  body-refused n h k =
+      ap (λ m. Err (book-fault m (refusal-offset f e m))) k ∙ sym (cond-false (eqb (body-refusal f b e) 0) _ _ (ne-eqb (body-refusal f b e) 0 (λ q. omega arith)))
+
+  taken-refusal : (next : Book) → body-entered f b e ≡ Ok next → body-refusal f b e ≡ 0
+  unfolding body-entered
+  taken-refusal next h =
+      ⊎-elim (λ (t : eqb (body-refusal f b e) 0 ≡ true). eqb-true (body-refusal f b e) 0 t)
+      (λ (t : eqb (body-refusal f b e) 0 ≡ false).
+      let k : Err (book-fault (body-refusal f b e) (refusal-offset f e (body-refusal f b e))) ≡ Ok next = sym (cond-false (eqb (body-refusal f b e) 0) _ _ t) ∙ h in
+      let y : _≡_ {A = ℕ} 0 1 = cc in
+      absurd (omega arith))
+      (cases-bool (eqb (body-refusal f b e) 0))
+
+accepted-right : (f : List ℕ) (b : Book) (e : Entry) → body-refusal f b e ≡ 0 → wrong-pair f e ≡ None
 unfolding body-refusal
-entered-right f b e h =
+accepted-right f b e h =
     let l = accepted-lawful b (e .place) (word f (e .start)) (word f (e .start + 2)) (byte f (e .start + 4)) (body-pairs f e) h in
     let r : rising 0 (body-pairs f e) ≡ true = grind (arith, tells) in
     let w : weighted (body-pairs f e) ≡ true = grind (arith, tells) in
     lawful-right (body-pairs f e) 0 (e .start + 6) r w
+
+-- a body that is entered has no wrong pair
+pub entered-right : (f : List ℕ) (b next : Book) (e : Entry) → Ok next ≡ body-entered f b e → wrong-pair f e ≡ None
+entered-right f b next e h = accepted-right f b e (taken-refusal f b e next (sym h))
 
 -- one more body without a wrong pair
 pub right-more : (f : List ℕ) (es : List Entry) (i : ℕ) → i < length es → wrong-in f (take i es) ≡ None → wrong-in f (take (i + 1) es) ≡ wrong-pair f (getD es i blank)
@@ -112,15 +145,14 @@ module _ (f : List ℕ) (b : Book) (es : List Entry) (i : ℕ) (lt : i < length 
   abbrev here : Entry
   here = getD es i blank
 
-  pub entered-goes : body-refusal f b here ≡ 0 → bodies-entered f b (drop i es) ≡ bodies-entered f (with-body f b here) (drop (i + 1) es)
-  entered-goes h =
-      let z : eqb (body-refusal f b here) 0 ≡ true = eq-eqb (body-refusal f b here) 0 h in
-      at-drop-more (bodies-entered f b) es i blank lt ∙ cond-true (eqb (body-refusal f b here) 0) _ _ z
+  entered-next : bodies-entered f b (drop i es) ≡ and-then (body-entered f b here) (λ next. bodies-entered f next (drop (i + 1) es))
+  entered-next = at-drop-more (bodies-entered f b) es i blank lt
 
-  pub entered-stops : 1 ≤ body-refusal f b here → bodies-entered f b (drop i es) ≡ Err (book-fault (body-refusal f b here) (refusal-offset f here (body-refusal f b here)))
-  entered-stops h =
-      let z : eqb (body-refusal f b here) 0 ≡ false = ne-eqb (body-refusal f b here) 0 (λ q. omega arith) in
-      at-drop-more (bodies-entered f b) es i blank lt ∙ cond-false (eqb (body-refusal f b here) 0) _ _ z
+  pub entered-goes : (next : Book) → Ok next ≡ body-entered f b here → bodies-entered f b (drop i es) ≡ bodies-entered f next (drop (i + 1) es)
+  entered-goes next h = entered-next ∙ ap (λ r. and-then r (λ x. bodies-entered f x (drop (i + 1) es))) (sym h)
+
+  pub entered-stops : (t : Told) → Err t ≡ body-entered f b here → bodies-entered f b (drop i es) ≡ Err t
+  entered-stops t h = entered-next ∙ ap (λ r. and-then r (λ x. bodies-entered f x (drop (i + 1) es))) (sym h)
 
 pub within-take : (f : List ℕ) (es : List Entry) (i : ℕ) → within f es ≡ true → within f (take i es) ≡ true
 within-take f [] zero h = refl
@@ -174,68 +206,55 @@ contents-within f h =
     absurd (omega arith))
     (cases-bool (contents-fit f))
 
--- 5 is the number of a refused table alone
-no-five : (r : Refusal) → (r ≡ Table → ⊥) → number r ≡ 5 → ⊥
-no-five Place h e = omega arith
-no-five Period h e = omega arith
-no-five Phase h e = omega arith
-no-five Deadline h e = omega arith
-no-five Table h e = h refl
-no-five Hyperperiod h e = omega arith
-no-five Jobs h e = omega arith
-no-five Empty h e = omega arith
-no-five Rounds h e = omega arith
-no-five Sheet h e = omega arith
-no-five NoJob h e = omega arith
-no-five Window h e = omega arith
-
-pub number-some : (r : Refusal) → 1 ≤ number r
-number-some Place = omega arith
-number-some Period = omega arith
-number-some Phase = omega arith
-number-some Deadline = omega arith
-number-some Table = omega arith
-number-some Hyperperiod = omega arith
-number-some Jobs = omega arith
-number-some Empty = omega arith
-number-some Rounds = omega arith
-number-some Sheet = omega arith
-number-some NoJob = omega arith
-number-some Window = omega arith
+-- a refusal has a number, and 5 is a refused table alone
+pub numbered : (r : Refusal) → (1 ≤ number r) × (number r ≡ 5 → r ≡ Table)
+numbered Place = (omega arith, λ e. absurd (omega arith))
+numbered Period = (omega arith, λ e. absurd (omega arith))
+numbered Phase = (omega arith, λ e. absurd (omega arith))
+numbered Deadline = (omega arith, λ e. absurd (omega arith))
+numbered Table = (omega arith, λ _. refl)
+numbered Hyperperiod = (omega arith, λ e. absurd (omega arith))
+numbered Jobs = (omega arith, λ e. absurd (omega arith))
+numbered Empty = (omega arith, λ e. absurd (omega arith))
+numbered Rounds = (omega arith, λ e. absurd (omega arith))
+numbered Sheet = (omega arith, λ e. absurd (omega arith))
+numbered NoJob = (omega arith, λ e. absurd (omega arith))
+numbered Window = (omega arith, λ e. absurd (omega arith))
 
 -- where a refusal is told
 module _ (f : List ℕ) (e : Entry) where
   pub offset-body : (r : Refusal) → (r ≡ Table → ⊥) → refusal-offset f e (number r) ≡ e .start
   unfolding refusal-offset
-  offset-body r h = cond-false (eqb (number r) 5) _ _ (ne-eqb (number r) 5 (no-five r h))
+  offset-body r h = cond-false (eqb (number r) 5) _ _ (ne-eqb (number r) 5 (λ e. h (numbered r .1 e)))
 
   pub offset-count : (r : Refusal) → r ≡ Table → (n : ℕ) → n ≡ pair-count f e → (n ≡ 0) ⊎ ((n ≡ 0 → ⊥) × (16 < n)) → refusal-offset f e (number r) ≡ e .start + 5
   unfolding refusal-offset
   offset-count r is n k h =
-      let t : (leb 1 (pair-count f e) && leb (pair-count f e) 16) ≡ false = grind (arith, tells) in
+      let t : (leb 1 (pair-count f e) && leb (pair-count f e) 16) ≡ false =
+      ⊎-elim (λ (z : n ≡ 0). and-left _ _ (lt-leb 1 (pair-count f e) (omega arith))) (λ (z : (n ≡ 0 → ⊥) × (16 < n)). and-right _ _ (lt-leb (pair-count f e) 16 (omega (arith, z .1)))) h in
       ap (λ x. cond (eqb (number x) 5) (table-offset f e) (e .start)) is ∙ cond-false (leb 1 (pair-count f e) && leb (pair-count f e) 16) _ _ t
 
   pub offset-pair : (r : Refusal) → r ≡ Table → (n : ℕ) → n ≡ pair-count f e → (n ≡ 0 → ⊥) → n ≤ 16 → refusal-offset f e (number r) ≡ valueOr (wrong-pair f e) (e .start + 5)
   unfolding refusal-offset
   offset-pair r is n k low high =
-      let t : (leb 1 (pair-count f e) && leb (pair-count f e) 16) ≡ true = grind (arith, tells) in
+      let t : (leb 1 (pair-count f e) && leb (pair-count f e) 16) ≡ true = and-from _ _ (le-leb 1 (pair-count f e) (omega arith)) (le-leb (pair-count f e) 16 (omega arith)) in
       ap (λ x. cond (eqb (number x) 5) (table-offset f e) (e .start)) is ∙ cond-true (leb 1 (pair-count f e) && leb (pair-count f e) 16) _ _ t
 
 -- what loading gives, step by step
 pub loaded-contents : (f : List ℕ) (t : Told) → contents-fault f ≡ Some t → loaded f ≡ Err t
 unfolding loaded
-loaded-contents f t h = ap (λ o. unless o (ended f (bodies-entered f new-book (contents f)))) h
+loaded-contents f t h = ap (λ o. unless o (and-then (bodies-entered f new-book (contents f)) (ended f))) h
 
-pub loaded-bodies : (f : List ℕ) (t : Told) → contents-fault f ≡ None → bodies-entered f new-book (contents f) ≡ Err t → loaded f ≡ Err t
+pub loaded-bodies : (f : List ℕ) (t : Told) → contents-fault f ≡ None → Err t ≡ bodies-entered f new-book (contents f) → loaded f ≡ Err t
 unfolding loaded
-loaded-bodies f t h k = ap (λ o. unless o (ended f (bodies-entered f new-book (contents f)))) h ∙ ap (ended f) k
+loaded-bodies f t h k = ap (λ o. unless o (and-then (bodies-entered f new-book (contents f)) (ended f))) h ∙ ap (λ r. and-then r (ended f)) (sym k)
 
-pub loaded-trailing : (f : List ℕ) (b : Book) → contents-fault f ≡ None → bodies-entered f new-book (contents f) ≡ Ok b → bodies-end f < length f → loaded f ≡ Err (file-fault 23 (bodies-end f))
+pub loaded-trailing : (f : List ℕ) (b : Book) → contents-fault f ≡ None → Ok b ≡ bodies-entered f new-book (contents f) → bodies-end f < length f → loaded f ≡ Err (file-fault 23 (bodies-end f))
 unfolding loaded
 loaded-trailing f b h k l =
-    ap (λ o. unless o (ended f (bodies-entered f new-book (contents f)))) h ∙ (ap (ended f) k ∙ cond-false (leb (length f) (bodies-end f)) _ _ (lt-leb _ _ l))
+    ap (λ o. unless o (and-then (bodies-entered f new-book (contents f)) (ended f))) h ∙ (ap (λ r. and-then r (ended f)) (sym k) ∙ cond-false (leb (length f) (bodies-end f)) _ _ (lt-leb _ _ l))
 
-pub loaded-whole : (f : List ℕ) (b : Book) → contents-fault f ≡ None → bodies-entered f new-book (contents f) ≡ Ok b → length f ≤ bodies-end f → loaded f ≡ Ok b
+pub loaded-whole : (f : List ℕ) (b : Book) → contents-fault f ≡ None → Ok b ≡ bodies-entered f new-book (contents f) → length f ≤ bodies-end f → loaded f ≡ Ok b
 unfolding loaded
 loaded-whole f b h k l =
-    ap (λ o. unless o (ended f (bodies-entered f new-book (contents f)))) h ∙ (ap (ended f) k ∙ cond-true (leb (length f) (bodies-end f)) _ _ (le-leb _ _ l))
+    ap (λ o. unless o (and-then (bodies-entered f new-book (contents f)) (ended f))) h ∙ (ap (λ r. and-then r (ended f)) (sym k) ∙ cond-true (leb (length f) (bodies-end f)) _ _ (le-leb _ _ l))

@@ -3,7 +3,7 @@ use Prim.Native.Nat.{ℕ, _+_, _*_, _<_, _≤_}
 use mathlib.Core.Path.{_≡_, refl, sym, ap, subst, _∙_}
 use mathlib.Core.List.{List, [], _∷_, _++_}
 use mathlib.Core.Bool.{Bool, true, false, cond, _&&_}
-use mathlib.Core.Logic.{_⊎_}
+use mathlib.Core.Logic.{_⊎_, ⊎-elim}
 use native.Mathlib.Omega.{arith}
 use lib.Dec.{leb}
 use lib.ListN.{length, take, drop, getD, set}
@@ -11,8 +11,7 @@ use Rattle.std.specs.declared.option.Option.{Option}
 use Rattle.std.specs.declared.option.Option.the-variants.{Some, None}
 use Rattle.std.proofs.shelf.Counted.{length-map-counting, getD-map-counting}
 use Rattle.std.proofs.shelf.Lists.{at-drop-more, take-more, take-more-set}
-use Rattle.std.proofs.shelf.Tests.{and-parts, and-from, cond-true, cond-false}
-use Rattle.std.proofs.shelf.Ways.{tells}
+use Rattle.std.proofs.shelf.Tests.{and-parts, and-from, and-left, and-right, cond-true, cond-false, leb-true, le-leb, lt-leb}
 use Rattle.analysis.specs.declared.pair.Pair.{Pair}
 use Rattle.book.specs.Pairs.{rising, weighted}
 use Rattle.planfile.specs.declared.contents.Entry.{Entry}
@@ -50,14 +49,15 @@ module _ (f : List ℕ) (at n i : ℕ) (lt : i < n) where
   pub pair-goes : (low : ℕ) (p : Pair) → p ≡ here → low ≤ p .time → (p .weight ≡ 0 → ⊥)
       → first-wrong (drop (i + 1) (pairs f at n)) (p .time + 1) (at + 3 * (i + 1)) ≡ first-wrong (drop i (pairs f at n)) low (at + 3 * i)
   pair-goes low p is l w =
-      let ok : (leb low (p .time) && leb 1 (p .weight)) ≡ true = grind (arith, tells) in
+      let ok : (leb low (p .time) && leb 1 (p .weight)) ≡ true = and-from _ _ (le-leb low (p .time) l) (le-leb 1 (p .weight) (omega arith)) in
       let x : at + 3 * (i + 1) ≡ at + 3 * i + 3 = omega arith in
       ap (λ y. first-wrong (drop (i + 1) (pairs f at n)) (p .time + 1) y) x ∙ (sym (cond-true (leb low (p .time) && leb 1 (p .weight)) _ _ ok) ∙ sym (pair-next low (at + 3 * i) p is))
 
   -- the pair at i is wrong
   pub pair-stops : (low : ℕ) (p : Pair) → p ≡ here → (p .time < low) ⊎ ((low ≤ p .time) × (p .weight ≡ 0)) → first-wrong (drop i (pairs f at n)) low (at + 3 * i) ≡ Some (at + 3 * i)
   pair-stops low p is h =
-      let bad : (leb low (p .time) && leb 1 (p .weight)) ≡ false = grind (arith, tells) in
+      let bad : (leb low (p .time) && leb 1 (p .weight)) ≡ false =
+      ⊎-elim (λ (t : p .time < low). and-left _ _ (lt-leb low (p .time) t)) (λ (t : (low ≤ p .time) × (p .weight ≡ 0)). and-right _ _ (lt-leb 1 (p .weight) (omega (arith, t .1)))) h in
       pair-next low (at + 3 * i) p is ∙ cond-false (leb low (p .time) && leb 1 (p .weight)) _ _ bad
 
 module _ (f : List ℕ) (es : List Entry) (i : ℕ) (d : Entry) (lt : i < length es) where
@@ -73,7 +73,7 @@ module _ (f : List ℕ) (es : List Entry) (i : ℕ) (d : Entry) (lt : i < length
   pub within-next : within f (drop i es) ≡ true → (getD es i d .start + 6 + 3 * pair-count f (getD es i d) ≤ length f) × (within f (drop (i + 1) es) ≡ true)
   within-next h =
       let a : (leb (getD es i d .start + 6 + 3 * pair-count f (getD es i d)) (length f) && within f (drop (i + 1) es)) ≡ true = sym (at-drop-more (within f) es i d lt) ∙ h in
-      (grind (arith, tells), and-parts _ _ a .1)
+      (leb-true _ _ (and-parts _ _ a .0), and-parts _ _ a .1)
 
 -- the pairs of a time table are not wrong
 pub lawful-right : (ps : List Pair) (low at : ℕ) → rising low ps ≡ true → weighted ps ≡ true → first-wrong ps low at ≡ None

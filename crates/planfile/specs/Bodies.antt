@@ -31,17 +31,16 @@ body-pairs f e = pairs f (e .start + 6) (pair-count f e)
 abbrev pub task : List ℕ → Entry → model.Entry
 task f e = record { period = word f (e .start); phase = word f (e .start + 2); deadline = byte f (e .start + 4); pairs = body-pairs f e }
 
+-- the number with which the book refuses the task, or 0
 unfoldable pub body-refusal : List ℕ → Book → Entry → ℕ
 body-refusal f b e = enter-refusal b (e .place) (task f e)
 
-unfoldable pub with-body : List ℕ → Book → Entry → Book
-with-body f b e = entered b (e .place) (task f e)
-
--- the first pair, from at on, that has weight 0 or a time not above the time before it
+-- where the first wrong pair stands, of the pairs from at on: one with weight 0, or with a time below low, which is one above the time of the pair before it
 abbrev pub first-wrong : List Pair → ℕ → ℕ → Option ℕ
 first-wrong [] low at = None
 first-wrong (p ∷ ps) low at = cond (leb low (p .time) && leb 1 (p .weight)) (first-wrong ps (p .time + 1) (at + 3)) (Some at)
 
+-- the first wrong pair of a body
 abbrev pub wrong-pair : List ℕ → Entry → Option ℕ
 wrong-pair f e = first-wrong (body-pairs f e) 0 (e .start + 6)
 
@@ -53,19 +52,27 @@ table-offset f e = cond (leb 1 (pair-count f e) && leb (pair-count f e) 16) (val
 unfoldable pub refusal-offset : List ℕ → Entry → ℕ → ℕ
 refusal-offset f e n = cond (eqb n 5) (table-offset f e) (e .start)
 
--- the book after each body has been entered, or the first refusal
+-- the book after a body has been entered, or its refusal
+unfoldable pub body-entered : List ℕ → Book → Entry → Result Book Told
+body-entered f b e =
+    cond (eqb (body-refusal f b e) 0) (Ok (entered b (e .place) (task f e))) (Err (book-fault (body-refusal f b e) (refusal-offset f e (body-refusal f b e))))
+
+-- a step that follows where there was no fault
+abbrev pub and-then : {X Y : Type 0} → Result X Told → (X → Result Y Told) → Result Y Told
+and-then (Ok x) next = next x
+and-then (Err t) next = Err t
+
+-- the book after each body has been entered in turn, or the first refusal
 abbrev pub bodies-entered : List ℕ → Book → List Entry → Result Book Told
 bodies-entered f b [] = Ok b
-bodies-entered f b (e ∷ es) =
-    cond (eqb (body-refusal f b e) 0)
-    (bodies-entered f (with-body f b e) es)
-    (Err (book-fault (body-refusal f b e) (refusal-offset f e (body-refusal f b e))))
+bodies-entered f b (e ∷ es) = and-then (body-entered f b e) (λ next. bodies-entered f next es)
 
--- the first wrong pair of several bodies
+-- the first of two
 abbrev pub or-else : {X : Type 0} → Option X → Option X → Option X
 or-else None y = y
 or-else (Some x) y = Some x
 
+-- the first wrong pair of several bodies
 abbrev pub wrong-in : List ℕ → List Entry → Option ℕ
 wrong-in f [] = None
 wrong-in f (e ∷ es) = or-else (wrong-pair f e) (wrong-in f es)

@@ -27,10 +27,12 @@ contents-fit f = leb (byte f 0) 16 && leb (1 + 5 * byte f 0) (length f)
 unfoldable pub contents : List ℕ → List Entry
 contents f = map (λ k. entry f (1 + 5 * k)) (counting 0 (byte f 0))
 
+-- one of the entries has the place
 abbrev pub used : List Entry → ℕ → Bool
 used [] place = false
 used (e ∷ es) place = eqb (e .place) place || used es place
 
+-- the first byte after a body
 abbrev pub body-end : Entry → ℕ
 body-end e = e .start + e .size
 
@@ -46,7 +48,7 @@ pair-count f e = byte f (e .start + 5)
 abbrev pub sized : List ℕ → Entry → Bool
 sized f e = leb 6 (e .size) && eqb (e .size) (6 + 3 * pair-count f e)
 
--- the number of what is wrong with an entry, or 0
+-- the number of what is wrong with an entry: its place or where its body lies, then its body's length; 0 where it is right
 unfoldable pub entry-number : List ℕ → ℕ → List Entry → Entry → ℕ
 entry-number f start before e = cond (placed f start before e) (cond (sized f e) 0 22) 21
 
@@ -62,6 +64,7 @@ entries-fault f at start before (e ∷ es) =
 abbrev pub contents-end : List ℕ → ℕ
 contents-end f = 1 + 5 * byte f 0
 
+-- the first fault in the contents: they do not fit, or an entry is wrong
 unfoldable pub contents-fault : List ℕ → Option Told
 contents-fault f = cond (contents-fit f) (entries-fault f 1 (contents-end f) [] (contents f)) (Some (file-fault 20 0))
 

@@ -11,6 +11,7 @@ use Rattle.planfile.specs.declared.faults.Cause.{Cause}
 use Rattle.planfile.specs.declared.faults.Cause.the-variants.{File, Book}
 use Rattle.planfile.specs.declared.faults.Fault.{Fault}
 
+-- how a fault is told
 pub record Told : Type 0 where
   pub layer : ℕ
   pub number : ℕ
@@ -41,6 +42,11 @@ file-fault n at = record { layer = 1; number = n; offset = at }
 -- a refusal of the book, by its number
 abbrev pub book-fault : ℕ → ℕ → Told
 book-fault n at = record { layer = 2; number = n; offset = at }
+
+-- what a call came to: the value after it where it succeeded, or its fault
+abbrev pub outcome : {X Y : Type 0} → Result X Fault → Y → Result Y Told
+outcome (Ok _) y = Ok y
+outcome (Err e) y = Err (told e)
 
 -- the fault of an answer, where it has one
 abbrev pub fault-in : {X : Type 0} → Result X Fault → Option Told

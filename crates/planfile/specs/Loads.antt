@@ -11,24 +11,24 @@ use Rattle.std.specs.declared.result.Result.the-variants.{Ok, Err}
 use Rattle.book.specs.Model.{Book, new-book}
 use Rattle.planfile.specs.Faults.{Told, file-fault}
 use Rattle.planfile.specs.Contents.{contents, contents-end, contents-fault, last-end}
-use Rattle.planfile.specs.Bodies.{bodies-entered}
+use Rattle.planfile.specs.Bodies.{bodies-entered, and-then}
 
 -- the first byte after the last body
 abbrev pub bodies-end : List ℕ → ℕ
 bodies-end f = last-end (contents-end f) (contents f)
 
 -- a book, where the file ends with its last body
-abbrev pub ended : List ℕ → Result Book Told → Result Book Told
-ended f (Err t) = Err t
-ended f (Ok b) = cond (leb (length f) (bodies-end f)) (Ok b) (Err (file-fault 23 (bodies-end f)))
+abbrev pub ended : List ℕ → Book → Result Book Told
+ended f b = cond (leb (length f) (bodies-end f)) (Ok b) (Err (file-fault 23 (bodies-end f)))
 
+-- a result, unless there was a fault before it
 abbrev pub unless : Option Told → Result Book Told → Result Book Told
 unless (Some t) r = Err t
 unless None r = r
 
 -- the contents first, whole; then the bodies in their order; then what follows the last
 unfoldable pub loaded : List ℕ → Result Book Told
-loaded f = unless (contents-fault f) (ended f (bodies-entered f new-book (contents f)))
+loaded f = unless (contents-fault f) (and-then (bodies-entered f new-book (contents f)) (ended f))
 
 -- the fault, where there is one
 abbrev pub fault-of : Result Book Told → Option Told

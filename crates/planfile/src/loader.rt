@@ -8,9 +8,9 @@ ghost use Rattle.std.specs.declared.option.Option.the-variants.{None};
 ghost use Rattle.std.specs.declared.result.Result.the-variants.{Ok, Err};
 ghost use Rattle.book.specs.Refusals.{number};
 ghost use Rattle.book.specs.Drafts.{draft-book};
-ghost use Rattle.planfile.specs.Faults.{told, book-fault, fault-in};
+ghost use Rattle.planfile.specs.Faults.{told, outcome, fault-in};
 ghost use Rattle.planfile.specs.Contents.{blank};
-ghost use Rattle.planfile.specs.Bodies.{within, wrong-in, refusal-offset, body-refusal, with-body, bodies-entered};
+ghost use Rattle.planfile.specs.Bodies.{within, wrong-in, refusal-offset, body-entered, bodies-entered};
 ghost use Rattle.planfile.specs.Loads.{loaded, fault-of, book-or};
 use crate::bodies::Body;
 use crate::bodies::first_wrong_pair;
@@ -55,7 +55,7 @@ fn enter_body(draft: &mut Draft, file: &[u8], entries: &[Entry], i: usize) -> Re
     requires few { ⌜ length (now entries) ≤ 16 ⌝ }
     requires fits { ⌜ within (now file) (now entries) ≡ true ⌝ }
     requires right { ⌜ wrong-in (now file) (take i (now entries)) ≡ None ⌝ }
-    ensures { λ r. ⌜ Cases r (λ _. (body-refusal (now (file .entry)) (draft-book (now (draft .entry))) (getD (now (entries .entry)) i blank) ≡ 0) × (draft-book (now (draft .exit)) ≡ with-body (now (file .entry)) (draft-book (now (draft .entry))) (getD (now (entries .entry)) i blank))) (λ e. (1 ≤ body-refusal (now (file .entry)) (draft-book (now (draft .entry))) (getD (now (entries .entry)) i blank)) × (told e ≡ book-fault (body-refusal (now (file .entry)) (draft-book (now (draft .entry))) (getD (now (entries .entry)) i blank)) (refusal-offset (now (file .entry)) (getD (now (entries .entry)) i blank) (body-refusal (now (file .entry)) (draft-book (now (draft .entry))) (getD (now (entries .entry)) i blank))))) ⌝ }
+    ensures { λ r. ⌜ outcome r (draft-book (now (draft .exit))) ≡ body-entered (now (file .entry)) (draft-book (now (draft .entry))) (getD (now (entries .entry)) i blank) ⌝ }
 {
     let entry = entries[i];
     let missing = Fault::file(FileFault::Entry, 1 + 5 * i);
@@ -79,7 +79,7 @@ fn enter_body(draft: &mut Draft, file: &[u8], entries: &[Entry], i: usize) -> Re
 fn enter_bodies(draft: &mut Draft, file: &[u8], entries: &[Entry]) -> Result<(), Fault>
     requires few { ⌜ length (now entries) ≤ 16 ⌝ }
     requires fits { ⌜ within (now file) (now entries) ≡ true ⌝ }
-    ensures { λ r. ⌜ Cases r (λ _. bodies-entered (now (file .entry)) (draft-book (now (draft .entry))) (now (entries .entry)) ≡ Ok (draft-book (now (draft .exit)))) (λ e. bodies-entered (now (file .entry)) (draft-book (now (draft .entry))) (now (entries .entry)) ≡ Err (told e)) ⌝ }
+    ensures { λ r. ⌜ outcome r (draft-book (now (draft .exit))) ≡ bodies-entered (now (file .entry)) (draft-book (now (draft .entry))) (now (entries .entry)) ⌝ }
 {
     for i in 0..entries.len() {
         enter_body(draft, file, entries, i)?;

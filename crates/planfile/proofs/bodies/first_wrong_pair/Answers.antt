@@ -16,7 +16,7 @@ returns-in-Break-count c =
     let f = c .args .file .now in
     let es = c .args .entries .now in
     let d : Entry = record { place = 0; start = 0; size = 0 } in
-    let lt : c .bodies .entry-index < length es = omega arith in
+    let lt : c .bodies .entry-index < length es = c .bodies-test .taken in
     let w = within-next f es (c .bodies .entry-index) d lt (c .bodies .inv .2) in
     let k = c .in-Break-count .ensures tt in
     absurd (omega (arith, w .0, k .0))
@@ -26,7 +26,7 @@ returns-in-Break-pair c =
     let f = c .args .file .now in
     let es = c .args .entries .now in
     let d : Entry = record { place = 0; start = 0; size = 0 } in
-    let lt : c .bodies .entry-index < length es = omega arith in
+    let lt : c .bodies .entry-index < length es = c .bodies-test .taken in
     let w = within-next f es (c .bodies .entry-index) d lt (c .bodies .inv .2) in
     let n = c .in-Continue-count .ensures tt in
     let k = c .in-Break-pair .ensures tt in
@@ -55,7 +55,7 @@ bodies-again c =
     let es = c .args .entries .now in
     let j = c .bodies .entry-index in
     let d : Entry = record { place = 0; start = 0; size = 0 } in
-    let lt : j < length es = omega arith in
+    let lt : j < length es = c .bodies-test .taken in
     let w = within-next f es j d lt (c .bodies .inv .2) in
     let n = c .in-Continue-count .ensures tt in
     let z = none-wrong f (getD es j d) (c .in-Continue-count .field-0) (c .loop-i .i) (c .loop-i .low) (n .1) (c .loop-i-test .left) (c .loop-i .inv .1) in
@@ -66,7 +66,7 @@ returns-after-bodies c =
     let f = c .args .file .now in
     let es = c .args .entries .now in
     let i = c .bodies .entry-index in
-    let le : length es ≤ i = omega arith in
+    let le : length es ≤ i = c .bodies-test .left in
     c .bodies .inv .0 ∙ (sym (at-drop-all (wrong-in f) es i le) ∙ c .bodies .inv .1)
 
 pub returns-then-pair-low : need.returns-then-pair-low
@@ -76,7 +76,7 @@ returns-then-pair-low c =
     let j = c .bodies .entry-index in
     let d : Entry = record { place = 0; start = 0; size = 0 } in
     let first = getD es j d .start + 6 in
-    let lt : j < length es = omega arith in
+    let lt : j < length es = c .bodies-test .taken in
     let n = c .in-Continue-count .ensures tt in
     let p = c .in-Continue-pair .pair in
     let k = c .in-Continue-pair .ensures tt in

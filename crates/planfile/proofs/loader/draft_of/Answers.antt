@@ -33,7 +33,7 @@ returns-in-Break-enter-bodies c =
     let k = c .in-Continue-contents .ensures tt in
     let is = c .entries .ensures ∙ k .1 in
     let p = err-from-errBy (c .from-residual-in-Break-enter-bodies .result) (c .from-residual-in-Break-enter-bodies .ensures .1) in
-    let b = ap (λ x. bodies-entered f x (contents f)) (sym (c .new-draft .ensures)) ∙ (ap (bodies-entered f (draft-book (c .new-draft .result))) (sym is) ∙ c .in-Break-enter-bodies .ensures tt) in
+    let b = c .in-Break-enter-bodies .ensures tt ∙ (ap (bodies-entered f (draft-book (c .new-draft .result))) is ∙ ap (λ x. bodies-entered f x (contents f)) (c .new-draft .ensures)) in
     let l = loaded-bodies f _ (k .0) b in
     rw (p .1, p .2) l
 
@@ -42,7 +42,7 @@ returns-then-contents-file c =
     let f = c .args .file .now in
     let k = c .in-Continue-contents .ensures tt in
     let is = c .entries .ensures ∙ k .1 in
-    let b = ap (λ x. bodies-entered f x (contents f)) (sym (c .new-draft .ensures)) ∙ (ap (bodies-entered f (draft-book (c .new-draft .result))) (sym is) ∙ c .in-Continue-enter-bodies .ensures tt) in
+    let b = c .in-Continue-enter-bodies .ensures tt ∙ (ap (bodies-entered f (draft-book (c .new-draft .result))) is ∙ ap (λ x. bodies-entered f x (contents f)) (c .new-draft .ensures)) in
     let l = loaded-trailing f _ (k .0) b (subst (λ x. x < length f) (k .3) (c .if-contents-file .taken)) in
     l ∙ (ap (λ x. Err (file-fault 23 x)) (sym (k .3)) ∙ ap (λ e. Err (told e)) (sym (c .file .ensures)))
 
@@ -51,5 +51,5 @@ returns c =
     let f = c .args .file .now in
     let k = c .in-Continue-contents .ensures tt in
     let is = c .entries .ensures ∙ k .1 in
-    let b = ap (λ x. bodies-entered f x (contents f)) (sym (c .new-draft .ensures)) ∙ (ap (bodies-entered f (draft-book (c .new-draft .result))) (sym is) ∙ c .in-Continue-enter-bodies .ensures tt) in
+    let b = c .in-Continue-enter-bodies .ensures tt ∙ (ap (bodies-entered f (draft-book (c .new-draft .result))) is ∙ ap (λ x. bodies-entered f x (contents f)) (c .new-draft .ensures)) in
     loaded-whole f _ (k .0) b (subst (λ x. length f ≤ x) (k .3) (c .if-contents-file .left))

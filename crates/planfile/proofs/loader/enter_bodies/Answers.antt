@@ -18,8 +18,8 @@ returns-in-Break-enter-body c =
     let i = c .loop-i .i in
     let p = err-from-errBy (c .from-residual .result) (c .from-residual .ensures .1) in
     let k = c .in-Break-enter-body .ensures tt in
-    let s = entered-stops f (draft-book (c .loop-i .draft)) es i (c .loop-i-test .taken) (k .0) in
-    rw (p .1, p .2) (sym (c .loop-i .inv .0) ∙ (s ∙ ap Err (sym (k .1))))
+    let s = entered-stops f (draft-book (c .loop-i .draft)) es i (c .loop-i-test .taken) _ k in
+    rw (p .1, p .2) (sym s ∙ c .loop-i .inv .0)
 
 pub loop-i-again : need.loop-i-again
 loop-i-again c =
@@ -28,13 +28,14 @@ loop-i-again c =
     let i = c .loop-i .i in
     let b = draft-book (c .loop-i .draft) in
     let lt : i < length es = c .loop-i-test .taken in
+    let next = draft-book (c .enter-body .last .draft) in
     let k = c .in-Continue-enter-body .ensures tt in (
-      ap (λ x. bodies-entered f x (drop (i + 1) es)) (k .1) ∙ (sym (entered-goes f b es i lt (k .0)) ∙ c .loop-i .inv .0),
-      right-more f es i lt (c .loop-i .inv .1) ∙ entered-right f b (getD es i blank) (k .0),
+      sym (entered-goes f b es i lt next k) ∙ c .loop-i .inv .0,
+      right-more f es i lt (c .loop-i .inv .1) ∙ entered-right f b next (getD es i blank) k,
     )
 
 pub returns : need.returns
 returns c =
     let f = c .args .file .now in
     let es = c .args .entries .now in
-    sym (c .loop-i .inv .0) ∙ at-drop-all (bodies-entered f (draft-book (c .loop-i .draft))) es (c .loop-i .i) (c .loop-i-test .left)
+    sym (at-drop-all (bodies-entered f (draft-book (c .loop-i .draft))) es (c .loop-i .i) (c .loop-i-test .left)) ∙ c .loop-i .inv .0

@@ -7,8 +7,7 @@ use lib.ListN.{length, take, drop}
 use Rattle.std.specs.declared.option.Option.the-variants.{Some, None}
 use Rattle.std.proofs.shelf.Lists.{length-set, take-all, at-drop-all}
 use Rattle.std.proofs.shelf.Results.{err-from-errBy}
-use Rattle.std.proofs.shelf.Tests.{cond-true, cond-false}
-use Rattle.std.proofs.shelf.Ways.{tells}
+use Rattle.std.proofs.shelf.Tests.{cond-true, cond-false, and-parts, leb-true}
 use Rattle.planfile.specs.declared.contents.Entry.{Entry}
 use Rattle.planfile.specs.Faults.{told, file-fault}
 use Rattle.planfile.specs.Fields.{byte}
@@ -45,7 +44,7 @@ loop-i-again c =
     let inv = c .loop-i .inv in
     let lt : i < byte f 0 = omega arith in
     let fit : contents-fit f ≡ true = n .1 in
-    let small : byte f 0 ≤ 16 = grind (arith, tells) in
+    let small : byte f 0 ≤ 16 = leb-true (byte f 0) 16 (and-parts _ _ fit .0) in
     let in2 : i < length (c .loop-i .entries) = omega arith in
     let z : i - 0 ≡ i = omega arith in
     let end : c .end-end .result ≡ body-end (entry f (1 + 5 * i)) = c .end-end .ensures ∙ ap body-end (k .0) in (
@@ -64,7 +63,7 @@ returns c =
     let inv = c .loop-i .inv in
     let m = length-contents f in
     let fit : contents-fit f ≡ true = n .1 in
-    let small : c .in-Continue-count .count ≤ 16 = grind (arith, tells) in
+    let small : c .in-Continue-count .count ≤ 16 = omega (arith, leb-true (byte f 0) 16 (and-parts _ _ fit .0), n .0) in
     let is : i ≡ c .in-Continue-count .count = omega arith in
     let le : length (contents f) ≤ i = omega arith in (
       cond-true _ _ _ (n .1) ∙ (sym (inv .3) ∙ at-drop-all (entries-fault f (1 + 5 * i) (c .loop-i .end) (take i (contents f))) (contents f) i le),
