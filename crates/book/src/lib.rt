@@ -9,6 +9,7 @@ mod tasks;
 pub use drafts::Draft;
 pub use drafts::plans::Plan;
 pub use lateness::TaskLateness;
+pub use lateness::TaskLatenessPartialEq;
 pub use refusals::Refusal;
 pub use refusals::SheetRefused;
 pub use tables::TimeTable;

@@ -79,9 +79,10 @@ module _ (f : List ℕ) (es : List Entry) (i : ℕ) (d : Entry) (lt : i < length
 pub lawful-right : (ps : List Pair) (low at : ℕ) → rising low ps ≡ true → weighted ps ≡ true → first-wrong ps low at ≡ None
 lawful-right [] low at r w = refl
 lawful-right (p ∷ ps) low at r w =
-    let a = and-parts (leb low (p .time)) (rising (p .time + 1) ps) r in
+    let a = and-parts (leb low (p .time) && leb (p .time) 255) (rising (p .time + 1) ps) r in
+    let t = and-parts (leb low (p .time)) (leb (p .time) 255) (a .0) in
     let b = and-parts (leb 1 (p .weight)) (weighted ps) w in
-    cond-true (leb low (p .time) && leb 1 (p .weight)) _ _ (and-from _ _ (a .0) (b .0)) ∙ lawful-right ps (p .time + 1) (at + 3) (a .1) (b .1)
+    cond-true (leb low (p .time) && leb 1 (p .weight)) _ _ (and-from _ _ (t .0) (b .0)) ∙ lawful-right ps (p .time + 1) (at + 3) (a .1) (b .1)
 
 or-none : (o : Option ℕ) → or-else o None ≡ o
 or-none None = refl

@@ -1,7 +1,10 @@
 //! The edits of a draft.
 ghost use mathlib.Core.Path.{_≡_};
-ghost use Rattle.book.specs.Model.{new-book};
-ghost use Rattle.book.specs.Moves.{enter-refusal, entered, withdraw-refusal, withdrawn, opening-refusal, with-opening, rounds-refusal, with-rounds};
+ghost use mathlib.Core.Bool.{true, cond};
+ghost use lib.Dec.{eqb};
+ghost use Rattle.book.specs.Model.{new-book, all-lawful};
+ghost use Rattle.book.specs.Places.{places};
+ghost use Rattle.book.specs.Moves.{bound-refusal, with-places, enter-refusal, entered, withdraw-refusal, withdrawn, opening-refusal, with-opening, rounds-refusal, with-rounds};
 ghost use Rattle.book.specs.Refusals.{answer};
 ghost use Rattle.book.specs.Drafts.{draft-book};
 use crate::drafts::Draft;
@@ -58,6 +61,15 @@ impl Draft {
             table,
         };
         next.put(place, task);
+        self.adopt(next)
+    }
+
+    /// Takes over lawful entries, if their hyperperiod and the jobs in it are small enough.
+    fn adopt(&mut self, next: Entries) -> Result<(), Refusal>
+        requires { ⌜ all-lawful (places next) ≡ true ⌝ }
+        ensures answers { λ r. ⌜ answer r ≡ bound-refusal (places next) ⌝ }
+        ensures leaves { λ _. ⌜ draft-book (now (self .exit)) ≡ cond (eqb (bound-refusal (places next)) 0) (with-places (draft-book (now (self .entry))) (places next)) (draft-book (now (self .entry))) ⌝ }
+    {
         let hyper = next.hyperperiod();
         if hyper > 4096 {
             return Err(Refusal::Hyperperiod);
