@@ -8,10 +8,10 @@ use lib.Dec.{ltb, eqb}
 use Rattle.std.proofs.shelf.Tests.{cases-order, cond-true, cond-false, lt-ltb, le-ltb, eq-eqb, ne-eqb}
 use Rattle.theory.specs.Rounded.{up}
 use Rattle.analysis.specs.Cells.{tail, tailed}
-use Rattle.analysis.specs.Counts.{counted, count-ops}
+use Rattle.kinds.specs.Counts.{counted, count-ops}
 use Rattle.analysis.specs.Inner.{joint}
 use Rattle.analysis.specs.Rounding.{lessened, rounded-off}
-use Rattle.analysis.specs.declared.count.Count.{Count}
+use Rattle.kinds.specs.declared.count.Count.{Count}
 use Rattle.analysis.proofs.Steps.{put, same-cells}
 
 tailed-at : (h : ℕ → Count) (k : ℕ) → k < 257 → tailed count-ops h k ≡ tail count-ops h k

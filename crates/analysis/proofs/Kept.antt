@@ -8,11 +8,11 @@ use native.Mathlib.Omega.{arith}
 use Rattle.std.proofs.shelf.Tests.{cases-lt}
 use Rattle.theory.specs.Rounded.{up}
 use Rattle.analysis.specs.Cells.{span, tail, passed, total, added}
-use Rattle.analysis.specs.Counts.{count-ops, count-laws}
+use Rattle.kinds.specs.Counts.{count-ops, count-laws}
 use Rattle.analysis.specs.Kept.{Rounding-divides}
 use Rattle.analysis.specs.Rounding.{rounded-off, lessened}
-use Rattle.analysis.specs.Stopped.{stop}
-use Rattle.analysis.specs.declared.count.Count.{Count}
+use Rattle.kinds.specs.Stopped.{stop}
+use Rattle.kinds.specs.declared.count.Count.{Count}
 use Rattle.analysis.specs.declared.pair.Pair.{Pair}
 use Rattle.analysis.proofs.Steps.{tail-step}
 use Rattle.analysis.proofs.Differences.{rounded-at}

@@ -5,9 +5,9 @@ use Prim.Native.Nat.{ℕ, _≤_}
 use Rattle.theory.specs.Semiring.{Ops}
 use Rattle.theory.specs.Rounded.{up}
 use Rattle.analysis.specs.Cells.{tail, passed, total, added}
-use Rattle.analysis.specs.Counts.{count-ops}
+use Rattle.kinds.specs.Counts.{count-ops}
 use Rattle.analysis.specs.Rounding.{rounded-off}
-use Rattle.analysis.specs.declared.count.Count.{Count}
+use Rattle.kinds.specs.declared.count.Count.{Count}
 use Rattle.analysis.specs.declared.pair.Pair.{Pair}
 
 abbrev pub Passing-keeps : {K : Type 0} → Ops K → Type 0

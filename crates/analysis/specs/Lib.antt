@@ -1,8 +1,3 @@
-pub mod Semiring
-pub mod Stopped
-pub mod Counts
-pub mod Heaviests
-pub mod Possibles
 pub mod Cells
 pub mod Rounding
 pub mod Refusals

@@ -3,9 +3,9 @@ use mathlib.Core.Bool.{cond}
 use Prim.Native.Nat.{ℕ, _+_, _-_}
 use lib.Dec.{ltb}
 use Rattle.theory.specs.Rounded.{up}
-use Rattle.analysis.specs.Counts.{counted, count-ops}
+use Rattle.kinds.specs.Counts.{counted, count-ops}
 use Rattle.analysis.specs.Cells.{tail}
-use Rattle.analysis.specs.declared.count.Count.{Count}
+use Rattle.kinds.specs.declared.count.Count.{Count}
 
 -- the difference of two neighbours, each divided and rounded up
 abbrev pub lessened : ℕ → (ℕ → Count) → ℕ → Count

@@ -3,13 +3,12 @@ ghost use Prim.Native.Nat.{_-_, _≤_};
 ghost use lib.ListN.{length};
 ghost use Rattle.theory.specs.Rounded.{up};
 ghost use Rattle.analysis.specs.Cells.{cells};
-ghost use Rattle.analysis.specs.Counts.{counted, count-ops};
+ghost use Rattle.kinds.specs.Counts.{counted, count-ops};
 ghost use Rattle.analysis.specs.Inner.{joint};
 ghost use Rattle.analysis.specs.Rounding.{lessened, rounded-off};
 ghost use Rattle.analysis.specs.Sheets.{Done};
-use super::count::Count;
-use super::count_weight::CountWeight;
-use super::count_weight::with_value;
+use kinds::Count;
+use kinds::CountWeight;
 use super::sheet_refusal::SheetRefusal;
 use super::spans::long_enough;
 use super::tailing::gather_tails;
@@ -31,7 +30,7 @@ fn round_up(number: u64, by: u64) -> u64
 fn difference(tail: Count, next: Count, by: u64) -> Count
     ensures { λ r. ⌜ r ≡ counted (up (tail .value) by - up (next .value) by) ⌝ }
 {
-    with_value(round_up(tail.value, by).saturating_sub(round_up(next.value, by)))
+    Count::new(round_up(tail.value(), by).saturating_sub(round_up(next.value(), by)))
 }
 
 // Makes each cell below 256 the difference of its rounded tail and the next one.

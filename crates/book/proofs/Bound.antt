@@ -11,8 +11,8 @@ use Rattle.std.specs.declared.option.Option.{Option}
 use Rattle.std.proofs.shelf.Tests.{cases-lt, cases-bool, lt-ltb, le-ltb}
 use Rattle.theory.specs.Semiring.{Ops}
 use Rattle.analysis.specs.declared.pair.Pair.{Pair}
-use Rattle.analysis.specs.declared.count.Count.{Count}
-use Rattle.analysis.specs.Counts.{count-ops, counted as count-of}
+use Rattle.kinds.specs.declared.count.Count.{Count}
+use Rattle.kinds.specs.Counts.{count-ops, counted as count-of}
 use Rattle.scenarios.specs.Walks.{lone}
 use Rattle.analysis.specs.Cells.{span, tail, total, passed, added, over, first, fresh, arriving, beyond}
 use Rattle.analysis.proofs.Steps.{same-cells}

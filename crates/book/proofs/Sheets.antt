@@ -9,8 +9,8 @@ use lib.Dec.{ltb, eqb}
 use lib.ListN.{length, getD, set, drop}
 use Rattle.std.proofs.shelf.Lists.{getD-past, getD-append-left, getD-append-right, getD-drop}
 use Rattle.std.proofs.shelf.Tests.{cases-lt, cases-eq, cond-true, cond-false, eq-eqb, ne-eqb, lt-ltb, le-ltb}
-use Rattle.analysis.specs.declared.count.Count.{Count}
-use Rattle.analysis.specs.Counts.{count-ops, counted, same-count}
+use Rattle.kinds.specs.declared.count.Count.{Count}
+use Rattle.kinds.specs.Counts.{count-ops, counted, same-count}
 use Rattle.theory.specs.Semiring.{Ops}
 use Rattle.analysis.specs.Cells.{cells, cleared, tail, tailed}
 use Rattle.analysis.proofs.Steps.{put, cells-set, same-cells}

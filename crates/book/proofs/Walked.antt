@@ -9,8 +9,8 @@ use Rattle.std.specs.declared.option.Option.{Option}
 use Rattle.std.proofs.shelf.Lists.{map-append, append-assoc}
 use Rattle.std.proofs.shelf.Tests.{cond-true, cond-false, le-leb, lt-leb}
 use Rattle.analysis.specs.declared.pair.Pair.{Pair}
-use Rattle.analysis.specs.declared.count.Count.{Count}
-use Rattle.analysis.specs.Counts.{count-ops, counted as count-of}
+use Rattle.kinds.specs.declared.count.Count.{Count}
+use Rattle.kinds.specs.Counts.{count-ops, counted as count-of}
 use Rattle.analysis.specs.Cells.{tail, total, passed, added}
 use Rattle.scenarios.specs.Questions.{Counted, Question, upto}
 use Rattle.scenarios.specs.Walks as scenario

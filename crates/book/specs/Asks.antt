@@ -7,13 +7,15 @@ use Rattle.std.specs.declared.option.Option.{Option}
 use Rattle.std.specs.declared.option.Option.the-variants.{Some, None}
 use Rattle.std.specs.declared.result.Result.{Result}
 use Rattle.std.specs.declared.result.Result.the-variants.{Ok, Err}
-use Rattle.analysis.specs.declared.count.Count.{Count}
-use Rattle.analysis.specs.Counts.{count-ops}
+use Rattle.kinds.specs.declared.count.Count.{Count}
+use Rattle.kinds.specs.Counts.{count-ops}
 use Rattle.analysis.specs.Cells.{cleared}
 use Rattle.book.specs.declared.lateness.TaskLateness.{TaskLateness}
 use Rattle.book.specs.Model.{Entry, Book, hyperperiod, window}
 use Rattle.book.specs.Jobs.{Rule, Job, due, release-of, asked}
 use Rattle.scenarios.specs.Walks.{rounded-late as late-of-question}
+use Rattle.theory.specs.Semiring.{Ops}
+use Rattle.scenarios.specs.Questions.{weight-of-all}
 use Rattle.book.specs.Questions.{question-of}
 
 -- two sheets that both have 257 cells or more, by their lengths
@@ -40,6 +42,15 @@ rounded-of rule b (Err n) = Err n
 -- rounded: the late weight of job i of a place; 10 for a short sheet, then 11, then 12
 abbrev pub rounded-answer : Rule → Book → ℕ → ℕ → ℕ → ℕ → Result ℕ ℕ
 rounded-answer rule b place i m n = cond (long m n) (rounded-of rule b (granted b (asked b place i))) (Err 10)
+
+-- a job whose scenarios weigh less than the kind's top; 13 for a heavier one
+abbrev pub light : {K : Type 0} → Ops K → Rule → Book → Result Job ℕ → Result Job ℕ
+light ops rule b (Ok j) = cond (ops .top (weight-of-all ops (question-of rule b j))) (Err 13) (Ok j)
+light ops rule b (Err n) = Err n
+
+-- response: the job that is answered in a kind; 10 for a short sheet, then 11, then 12, then 13
+abbrev pub response-answer : {K : Type 0} → Ops K → Rule → Book → ℕ → ℕ → ℕ → ℕ → Result Job ℕ
+response-answer ops rule b place i m n = cond (long m n) (light ops rule b (granted b (asked b place i))) (Err 10)
 
 -- how many jobs of an entry are released in each round
 abbrev pub round-jobs : Book → Entry → ℕ

@@ -5,8 +5,8 @@ use mathlib.Core.Bool.{cond}
 use lib.Dec.{leb}
 use Rattle.std.specs.declared.option.Option.{Option}
 use Rattle.analysis.specs.declared.pair.Pair.{Pair}
-use Rattle.analysis.specs.declared.count.Count.{Count}
-use Rattle.analysis.specs.Counts.{count-ops, counted as count-of}
+use Rattle.kinds.specs.declared.count.Count.{Count}
+use Rattle.kinds.specs.Counts.{count-ops, counted as count-of}
 use Rattle.analysis.specs.Cells.{tail, total, passed, added}
 use Rattle.analysis.specs.Rounding.{rounded-off}
 use Rattle.scenarios.specs.Walks.{lone}

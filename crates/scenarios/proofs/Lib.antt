@@ -1,0 +1,16 @@
+pub mod Foremost
+pub mod Split
+pub mod Responses
+pub mod Scenarios
+pub mod Outcomes
+pub mod Bridge
+pub mod BridgeAdding
+pub mod BridgePassing
+pub mod SheetWalk
+pub mod Eased
+pub mod Exact
+pub mod Plain
+pub mod RoundedWorse
+pub mod RoundedSteps
+pub mod RoundedWalk
+pub mod RoundedClose

@@ -8,7 +8,7 @@ use Rattle.theory.specs.Walk.{Worse}
 use Rattle.theory.specs.Rounded.{nat-ops, totals, Close}
 use Rattle.analysis.specs.declared.pair.Pair.{Pair}
 use Rattle.analysis.specs.Cells.{tail}
-use Rattle.analysis.specs.Counts.{count-ops, count-least}
+use Rattle.kinds.specs.Counts.{count-ops, count-least}
 use Rattle.scenarios.specs.Questions.{Counted, Question, counted, upto, drawn-from, tables, weight-of, weight-of-all}
 use Rattle.scenarios.specs.Walks.{exact-sheet, rounded-late}
 use lib.ListN.{length}

@@ -6,8 +6,8 @@ use lib.Dec.{leb, ltb, eqb}
 use Rattle.theory.specs.Semiring.{Ops}
 use Rattle.theory.specs.Walk.{Leg, after, from}
 use Rattle.analysis.specs.declared.pair.Pair.{Pair}
-use Rattle.analysis.specs.declared.count.Count.{Count}
-use Rattle.analysis.specs.Counts.{count-ops, counted as count-of}
+use Rattle.kinds.specs.declared.count.Count.{Count}
+use Rattle.kinds.specs.Counts.{count-ops, counted as count-of}
 use Rattle.analysis.specs.Cells.{tail, total, passed, added}
 use Rattle.analysis.specs.Rounding.{rounded-off}
 use Rattle.scenarios.specs.Questions.{Counted, Question, upto, drawn-from}

@@ -3,7 +3,7 @@ use mathlib.Core.List.{List}
 use mathlib.Core.Bool.{cond}
 use Prim.Native.Nat.{ℕ}
 use lib.Dec.{eqb}
-use Rattle.analysis.specs.Semiring.{Ops}
+use Rattle.kinds.specs.Semiring.{Ops}
 use Rattle.analysis.specs.Cells.{cleared, passed, added}
 use Rattle.analysis.specs.declared.pair.Pair.{Pair}
 

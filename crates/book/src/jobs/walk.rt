@@ -5,7 +5,7 @@ ghost use Prim.Native.Nat.{ℕ, _+_, _≤_, _<_};
 ghost use lib.ListN.{length};
 ghost use Rattle.std.specs.Results.{Cases};
 ghost use Rattle.analysis.specs.Cells.{cells};
-ghost use Rattle.analysis.specs.Counts.{count-ops, counted as count-of};
+ghost use Rattle.kinds.specs.Counts.{count-ops, counted as count-of};
 ghost use Rattle.analysis.specs.Sheets.{Done};
 ghost use Rattle.book.specs.Model.{all-lawful};
 ghost use Rattle.book.specs.Places.{places};

@@ -4,7 +4,7 @@ use native.Mathlib.Omega.{arith}
 use Rattle.std.proofs.shelf.Lists.{getD-read}
 use Rattle.theory.specs.Rounded.{up}
 use Rattle.analysis.specs.Cells.{cells, tailed}
-use Rattle.analysis.specs.Counts.{counted, count-ops}
+use Rattle.kinds.specs.Counts.{counted, count-ops}
 use Rattle.analysis.specs.Inner.{joint}
 use Rattle.analysis.specs.Rounding.{lessened}
 use Rattle.analysis.proofs.Steps.{put, cells-set, joint-above}
@@ -22,4 +22,4 @@ returns c =
     let last = getD-read now 256 (c .index-sheet-256 .result) (omega arith) (c .index-sheet-256 .is) (counted 0)
     ∙ ap (λ f. f 256) before ∙ joint-above new (tailed count-ops old) 256 256 (omega arith) in
     cells-set count-ops now 256 y (omega arith) ∙ ap (λ f. put f 256 y) before
-    ∙ rounded-all by old y (c .difference .ensures ∙ ap₂ (λ v n. counted (up (v .value) by - up n by)) last (c .new .ensures))
+    ∙ rounded-all by old y (c .difference .ensures ∙ ap₂ (λ v n. counted (up (v .value) by - up n by)) last (c .new .ensures .is))

@@ -4,10 +4,10 @@ use native.Mathlib.Omega.{arith}
 use Rattle.std.proofs.shelf.Lists.{getD-read}
 use Rattle.theory.specs.Rounded.{up}
 use Rattle.analysis.specs.Cells.{cells}
-use Rattle.analysis.specs.Counts.{counted, count-ops}
+use Rattle.kinds.specs.Counts.{counted, count-ops}
 use Rattle.analysis.specs.Inner.{joint}
 use Rattle.analysis.specs.Rounding.{lessened}
-use Rattle.analysis.specs.declared.count.Count.{Count}
+use Rattle.kinds.specs.declared.count.Count.{Count}
 use Rattle.analysis.proofs.Steps.{joint-none, joint-up, joint-above}
 use Rattle.analysis.proofs.rounding.take_differences.Needs as need
 

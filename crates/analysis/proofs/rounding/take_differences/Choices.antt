@@ -1,6 +1,6 @@
 use mathlib.Core.Path.{_≡_}
 use Rattle.analysis.specs.Cells.{cells}
-use Rattle.analysis.specs.Counts.{count-ops}
+use Rattle.kinds.specs.Counts.{count-ops}
 use Rattle.analysis.specs.Inner.{joint}
 use Rattle.analysis.specs.Rounding.{lessened}
 use Rattle.analysis.proofs.rounding.take_differences.Given as given

@@ -5,7 +5,7 @@ ghost use Prim.Native.Nat.{_+_, _*_, _≤_, _<_};
 ghost use lib.ListN.{length};
 ghost use Rattle.std.specs.Results.{Cases};
 ghost use Rattle.analysis.specs.Cells.{cells, cleared};
-ghost use Rattle.analysis.specs.Counts.{count-ops};
+ghost use Rattle.kinds.specs.Counts.{count-ops};
 ghost use Rattle.book.specs.Drafts.{plan-book};
 ghost use Rattle.book.specs.Jobs.{asked};
 ghost use Rattle.book.specs.Found.{job-of, Stands};

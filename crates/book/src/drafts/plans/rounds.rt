@@ -6,7 +6,7 @@ ghost use Rattle.std.specs.Results.{Cases};
 ghost use Rattle.std.specs.declared.option.Option.the-variants.{Some, None};
 ghost use Rattle.std.specs.declared.result.Result.the-variants.{Err};
 ghost use Rattle.analysis.specs.Cells.{cells, cleared};
-ghost use Rattle.analysis.specs.Counts.{count-ops};
+ghost use Rattle.kinds.specs.Counts.{count-ops};
 ghost use Rattle.book.specs.Drafts.{plan-book};
 ghost use Rattle.book.specs.Model.{Entry};
 ghost use Rattle.book.specs.Places.{entry-of};

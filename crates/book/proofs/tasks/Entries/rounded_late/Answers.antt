@@ -4,7 +4,7 @@ use native.Mathlib.Omega.{arith}
 use lib.ListN.{length}
 use Rattle.std.proofs.shelf.Lists.{getD-read}
 use Rattle.analysis.specs.Cells.{cells, tail}
-use Rattle.analysis.specs.Counts.{count-ops, counted}
+use Rattle.kinds.specs.Counts.{count-ops, counted}
 use Rattle.book.proofs.Sheets.{cleared-nought, tailed-at}
 use Rattle.book.proofs.tasks.Entries.rounded_late.Needs as need
 

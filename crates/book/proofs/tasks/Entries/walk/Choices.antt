@@ -1,7 +1,7 @@
 use mathlib.Core.Path.{_≡_}
 use lib.ListN.{length}
 use Rattle.analysis.specs.Cells.{cells}
-use Rattle.analysis.specs.Counts.{count-ops}
+use Rattle.kinds.specs.Counts.{count-ops}
 use Rattle.book.specs.Places.{places}
 use Rattle.book.specs.Jobs.{counted}
 use Rattle.book.specs.Found.{job-of, left}

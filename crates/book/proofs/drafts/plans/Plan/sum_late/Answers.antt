@@ -2,7 +2,7 @@ use Prim.Native.Nat.{_+_, _≤_}
 use mathlib.Core.Path.{_≡_, sym, ap, _∙_}
 use native.Mathlib.Omega.{arith}
 use Rattle.analysis.specs.Cells.{cells, cleared}
-use Rattle.analysis.specs.Counts.{count-ops}
+use Rattle.kinds.specs.Counts.{count-ops}
 use Rattle.book.specs.Drafts.{plan-book}
 use Rattle.book.specs.Places.{entry-of}
 use Rattle.book.specs.Asks.{late-sum}

@@ -1,7 +1,7 @@
 use Prim.Native.Nat.{_*_, _≤_}
 use mathlib.Core.Path.{_≡_}
 use Rattle.analysis.specs.Cells.{cells}
-use Rattle.analysis.specs.Counts.{count-ops}
+use Rattle.kinds.specs.Counts.{count-ops}
 use Rattle.book.specs.Drafts.{plan-book}
 use Rattle.book.specs.Places.{entry-of}
 use Rattle.book.specs.Asks.{late-sum}

@@ -1,0 +1,5 @@
+pub mod Semiring
+pub mod Stopped
+pub mod Counts
+pub mod Heaviests
+pub mod Possibles
