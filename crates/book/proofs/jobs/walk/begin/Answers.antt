@@ -10,4 +10,4 @@ unfolding begun
 returns c =
     let long : length (c .clear .last .sheet) ≡ 257 = omega arith in
     let at = c .in-Continue-settle .ensures tt .1 in
-    at ∙ ap (settled 0 (c .args .opening .now)) (whole-laid (c .args .sheet .now) (c .clear .last .sheet) (c .new .result) (c .pre) long (c .in-Continue-clear .ensures tt .1) (c .new .ensures))
+    at ∙ ap (settled 0 (c .args .opening .now)) (whole-laid (c .args .sheet .now) (c .clear .last .sheet) (c .new .result) (c .pre) long (c .in-Continue-clear .ensures tt .1) (c .new .ensures .is))
