@@ -13,13 +13,13 @@ use Rattle.theory.specs.Semiring.{Ops}
 use Rattle.analysis.specs.declared.pair.Pair.{Pair}
 use Rattle.kinds.specs.declared.count.Count.{Count}
 use Rattle.kinds.specs.Counts.{count-ops, counted as count-of}
-use Rattle.scenarios.specs.Walks.{lone}
+use Rattle.scenarios.specs.Walks.{lone, settled}
 use Rattle.analysis.specs.Cells.{span, tail, total, passed, added, over, first, fresh, arriving, beyond}
 use Rattle.analysis.proofs.Steps.{same-cells}
 use Rattle.analysis.proofs.Kept.{tail-most, passed-bound, added-bound, rounded-bound}
 use Rattle.book.specs.Model.{Entry, Book}
 use Rattle.book.specs.Jobs.{Rule, Job, counted}
-use Rattle.book.specs.Walk.{settled, Walk, begun, stepped, walked, late-over}
+use Rattle.book.specs.Walk.{Walk, begun, stepped, walked, late-over}
 
 module _ {K : Type 0} (o : Ops K) (f : ℕ → K) where
   fresh-none : (low : ℕ) (p : Pair) → 256 ≤ low → fresh o low f p ≡ o .product (o .nought) (o .read (p .weight))
@@ -56,29 +56,30 @@ added-any low f table m h =
     subst P (sym (added-most low f table l)) (added-bound 256 f table m (lit≤ tt) h))
     (cases-lt low 256)
 
-settled-bound : (low : ℕ) (table : List Pair) (f : ℕ → Count) (m : ℕ) → tail count-ops f 0 .value ≤ m → tail count-ops (settled low table f) 0 .value ≤ m
-unfolding settled
+settled-bound : (low : ℕ) (table : List Pair) (f : ℕ → Count) (m : ℕ) → tail count-ops f 0 .value ≤ m → tail count-ops (settled table (added count-ops low f table)) 0 .value ≤ m
 settled-bound low table f m h = rounded-bound (total count-ops table .value) (added count-ops low f table) m (added-any low f table m h)
 
 whole-tail : tail count-ops (lone count-ops (count-of 1048576)) 0 .value ≡ 1048576
 whole-tail = refl
 
-begun-bound : (opening : List Pair) → tail count-ops (begun opening .sheet) 0 .value ≤ 1048576
+begun-bound : (opening : List Pair) → tail count-ops (begun count-ops settled (count-of 1048576) opening .sheet) 0 .value ≤ 1048576
 unfolding begun
 begun-bound opening = settled-bound 0 opening (lone count-ops (count-of 1048576)) 1048576 (omega (arith, whole-tail))
 
-stepped-bound : (a : ℕ) (w : Walk) (k : Job) (m : ℕ) → tail count-ops (w .sheet) 0 .value ≤ m → tail count-ops (stepped a w k .sheet) 0 .value ≤ m
+stepped-bound : (a : ℕ) (w : Walk Count) (k : Job) (m : ℕ) → tail count-ops (w .sheet) 0 .value ≤ m → tail count-ops (settled (k .entry .pairs) (stepped count-ops a w k .sheet)) 0 .value ≤ m
 stepped-bound a w k m h =
     ⊎-elim
     (λ (e : leb (k .release) a ≡ true). rw e (settled-bound 0 (k .entry .pairs) (passed count-ops (k .release - w .last) (w .sheet)) m (passed-bound (k .release - w .last) (w .sheet) m h)))
     (λ (e : leb (k .release) a ≡ false). rw e (settled-bound (k .release - a + 1) (k .entry .pairs) (w .sheet) m h))
     (cases-bool (leb (k .release) a))
 
-walked-bound : (a : ℕ) (w : Walk) (ks : List Job) (m : ℕ) → tail count-ops (w .sheet) 0 .value ≤ m → tail count-ops (walked a w ks .sheet) 0 .value ≤ m
+walked-bound : (a : ℕ) (w : Walk Count) (ks : List Job) (m : ℕ) → tail count-ops (w .sheet) 0 .value ≤ m → tail count-ops (walked count-ops settled a w ks .sheet) 0 .value ≤ m
 walked-bound a w [] m h = h
-walked-bound a w (k ∷ ks) m h = walked-bound a (stepped a w k) ks m (stepped-bound a w k m h)
+walked-bound a w (k ∷ ks) m h =
+    walked-bound a (record { last = stepped count-ops a w k .last; sheet = settled (k .entry .pairs) (stepped count-ops a w k .sheet) }) ks m (stepped-bound a w k m h)
 
 pub late-bound : (rule : Rule) (ps : List (Option Entry)) (opening : List Pair) (j : Job) → late-over rule ps opening j ≤ 1048576
 late-bound rule ps opening j =
-    let w = walked (j .release) (begun opening) (counted rule ps j) in
-    le-trans (tail-most (w .sheet) (j .entry .deadline + 1)) (walked-bound (j .release) (begun opening) (counted rule ps j) 1048576 (begun-bound opening))
+    let start = begun count-ops settled (count-of 1048576) opening in
+    let w = walked count-ops settled (j .release) start (counted rule ps j) in
+    le-trans (tail-most (w .sheet) (j .entry .deadline + 1)) (walked-bound (j .release) start (counted rule ps j) 1048576 (begun-bound opening))

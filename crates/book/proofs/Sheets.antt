@@ -16,44 +16,50 @@ use Rattle.analysis.specs.Cells.{cells, cleared, tail, tailed}
 use Rattle.analysis.proofs.Steps.{put, cells-set, same-cells}
 use Rattle.scenarios.specs.Walks.{lone}
 
--- a cleared sheet of 257 cells is nought at every place
-pub cleared-nought : (xs : List Count) (k : ℕ) → length xs ≡ 257 → cleared count-ops (cells count-ops xs) k ≡ counted 0
-unfolding cleared
-cleared-nought xs k long =
-    ⊎-elim (λ (h : k < 257). cond-true _ _ _ (lt-ltb k 257 h))
-    (λ (h : 257 ≤ k). cond-false _ _ _ (le-ltb k 257 h) ∙ getD-past xs k (counted 0) (omega arith))
-    (cases-lt k 257)
+module _ {K : Type 0} (o : Ops K) where
+  -- a cleared sheet of 257 cells is nought at every place
+  pub cleared-nought : (xs : List K) (k : ℕ) → length xs ≡ 257 → cleared o (cells o xs) k ≡ o .nought
+  unfolding cleared
+  cleared-nought xs k long =
+      ⊎-elim (λ (h : k < 257). cond-true _ _ _ (lt-ltb k 257 h))
+      (λ (h : 257 ≤ k). cond-false _ _ _ (le-ltb k 257 h) ∙ getD-past xs k (o .nought) (omega arith))
+      (cases-lt k 257)
 
-put-whole : (f : ℕ → Count) (y : Count) → ((k : ℕ) → f k ≡ counted 0) → y .value ≡ 1048576 → (k : ℕ) → put f 0 y k ≡ lone count-ops (counted 1048576) k
-put-whole f y none is k =
-    ⊎-elim
-    (λ (e : k ≡ 0). cond-true _ _ _ (eq-eqb k 0 e) ∙ (same-count y (counted 1048576) is ∙ sym (cond-true _ _ _ (eq-eqb k 0 e))))
-    (λ (e : k ≡ 0 → ⊥). cond-false _ _ _ (ne-eqb k 0 e) ∙ (none k ∙ sym (cond-false _ _ _ (ne-eqb k 0 e))))
-    (cases-eq k 0)
+  put-lone : (f : ℕ → K) (x : K) → ((k : ℕ) → f k ≡ o .nought) → (k : ℕ) → put f 0 x k ≡ lone o x k
+  put-lone f x none k =
+      ⊎-elim
+      (λ (e : k ≡ 0). cond-true _ _ _ (eq-eqb k 0 e) ∙ sym (cond-true _ _ _ (eq-eqb k 0 e)))
+      (λ (e : k ≡ 0 → ⊥). cond-false _ _ _ (ne-eqb k 0 e) ∙ (none k ∙ sym (cond-false _ _ _ (ne-eqb k 0 e))))
+      (cases-eq k 0)
 
-pub whole-laid : (old xs : List Count) (y : Count) → length old ≡ 257 → length xs ≡ 257 → cells count-ops xs ≡ cleared count-ops (cells count-ops old) → y .value ≡ 1048576 → cells count-ops (set xs 0 y) ≡ lone count-ops (counted 1048576)
-whole-laid old xs y long kept e is =
-    cells-set count-ops xs 0 y (omega arith)
-    ∙ same-cells (put-whole (cells count-ops xs) y (λ k. ap (λ f. f k) e ∙ cleared-nought old k long) is)
+  pub lone-laid : (old xs : List K) (x : K) → length old ≡ 257 → length xs ≡ 257 → cells o xs ≡ cleared o (cells o old) → cells o (set xs 0 x) ≡ lone o x
+  lone-laid old xs x long kept e =
+      cells-set o xs 0 x (omega arith) ∙ same-cells (put-lone (cells o xs) x (λ k. ap (λ f. f k) e ∙ cleared-nought old k long))
 
 pub tailed-at : {K : Type 0} (o : Ops K) (f : ℕ → K) (k : ℕ) → k < 257 → tailed o f k ≡ tail o f k
 unfolding tailed
 tailed-at o f k h = cond-true _ _ _ (lt-ltb k 257 h)
 
--- a sheet whose first 257 cells were written over by noughts
-pub swept-part : (old new : List Count) → length new ≡ 257 → ((k : ℕ) → cells count-ops new k ≡ counted 0) → cells count-ops (new ++ drop 257 old) ≡ cleared count-ops (cells count-ops old)
-unfolding cleared
-swept-part old new long none =
-    same-cells (λ k.
-    ⊎-elim
-    (λ (h : k < 257). getD-append-left new (drop 257 old) (counted 0) k (omega arith) ∙ none k ∙ sym (cond-true _ _ _ (lt-ltb k 257 h)))
-    (λ (h : 257 ≤ k).
-    let at : 257 + (k - 257) ≡ k = omega arith in
-    getD-append-right new (drop 257 old) 257 k (counted 0) long h
-    ∙ getD-drop 257 old (k - 257) (counted 0)
-    ∙ ap (λ i. getD old i (counted 0)) at
-    ∙ sym (cond-false _ _ _ (le-ltb k 257 h)))
-    (cases-lt k 257))
+-- a sheet whose first 257 cells were written over
+module _ {K : Type 0} (o : Ops K) (old new : List K) (long : length new ≡ 257) where
+  pub part-below : (k : ℕ) → k < 257 → cells o (new ++ drop 257 old) k ≡ cells o new k
+  part-below k h = getD-append-left new (drop 257 old) (o .nought) k (omega arith)
+
+  pub part-above : (k : ℕ) → 257 ≤ k → cells o (new ++ drop 257 old) k ≡ cells o old k
+  part-above k h =
+      let at : 257 + (k - 257) ≡ k = omega arith in
+      getD-append-right new (drop 257 old) 257 k (o .nought) long h
+      ∙ getD-drop 257 old (k - 257) (o .nought)
+      ∙ ap (λ i. getD old i (o .nought)) at
+
+  pub swept-part : ((k : ℕ) → cells o new k ≡ o .nought) → cells o (new ++ drop 257 old) ≡ cleared o (cells o old)
+  unfolding cleared
+  swept-part none =
+      same-cells (λ k.
+      ⊎-elim
+      (λ (h : k < 257). part-below k h ∙ none k ∙ sym (cond-true _ _ _ (lt-ltb k 257 h)))
+      (λ (h : 257 ≤ k). part-above k h ∙ sym (cond-false _ _ _ (le-ltb k 257 h)))
+      (cases-lt k 257))
 
 pub cleared-twice : {K : Type 0} (o : Ops K) (f : ℕ → K) → cleared o (cleared o f) ≡ cleared o f
 unfolding cleared

@@ -13,34 +13,41 @@ use Rattle.kinds.specs.declared.count.Count.{Count}
 use Rattle.kinds.specs.Counts.{count-ops, counted as count-of}
 use Rattle.analysis.specs.Cells.{tail, total, passed, added}
 use Rattle.scenarios.specs.Questions.{Counted, Question, upto}
+use Rattle.theory.specs.Semiring.{Ops}
 use Rattle.scenarios.specs.Walks as scenario
+use Rattle.scenarios.specs.Walks.{Settling}
 use Rattle.book.specs.Model.{Entry}
 use Rattle.book.specs.Jobs.{Rule, Job, counted, counted-before, counted-later}
-use Rattle.book.specs.Walk.{settled, Walk, begun, stepped, walked, late-over}
+use Rattle.book.specs.Walk.{Walk, begun, stepped, walked, walked-sheet, late-over}
 use Rattle.book.specs.Questions.{as-counted, question-over}
 use Rattle.book.proofs.Reach.{Rises, rises-in, rises-join, rises-later}
 
-walked-append : (a : ℕ) (w : Walk) (xs ys : List Job) → walked a w (xs ++ ys) ≡ walked a (walked a w xs) ys
-walked-append a w [] ys = refl
-walked-append a w (x ∷ xs) ys = walked-append a (stepped a w x) xs ys
+module _ {K : Type 0} (ops : Ops K) (settle : Settling K) where
+  -- one counted job, and what is done to the sheet after its table is added
+  abbrev next : ℕ → Walk K → Job → Walk K
+  next a w k = record { last = stepped ops a w k .last; sheet = settle (k .entry .pairs) (stepped ops a w k .sheet) }
 
--- up to the release
-first-part : (rule : Rule) (a low : ℕ) (w : Walk) (ks : List Job) → Rises low (a + 1) ks → walked a w ks .sheet ≡ scenario.walked-upto count-ops scenario.settled (w .last) (w .sheet) (map (as-counted rule) ks)
-unfolding settled
-first-part rule a low w [] h = refl
-first-part rule a low w (k ∷ ks) h =
-    let early : leb (k .release) a ≡ true = le-leb (k .release) a (omega (arith, h .1)) in
-    let next : Walk = record { last = k .release; sheet = settled 0 (k .entry .pairs) (passed count-ops (k .release - w .last) (w .sheet)) } in
-    ap (λ v. walked a v ks .sheet) (cond-true (leb (k .release) a) next _ early) ∙ first-part rule a (k .release) next ks (h .2)
+  walked-append : (a : ℕ) (w : Walk K) (xs ys : List Job) → walked ops settle a w (xs ++ ys) ≡ walked ops settle a (walked ops settle a w xs) ys
+  walked-append a w [] ys = refl
+  walked-append a w (x ∷ xs) ys = walked-append a (next a w x) xs ys
 
--- after it
-second-part : (rule : Rule) (a low high : ℕ) (w : Walk) (ks : List Job) → a < low → Rises low high ks → walked a w ks .sheet ≡ scenario.walked-later count-ops scenario.settled a (w .sheet) (map (as-counted rule) ks)
-unfolding settled
-second-part rule a low high w [] lt h = refl
-second-part rule a low high w (k ∷ ks) lt h =
-    let late : leb (k .release) a ≡ false = lt-leb (k .release) a (omega (arith, h .0)) in
-    let next : Walk = record { last = w .last; sheet = settled (k .release - a + 1) (k .entry .pairs) (w .sheet) } in
-    ap (λ v. walked a v ks .sheet) (cond-false (leb (k .release) a) _ next late) ∙ second-part rule a (k .release) high next ks (omega (arith, h .0)) (h .2)
+  -- up to the release
+  first-part : (rule : Rule) (a low : ℕ) (w : Walk K) (ks : List Job) → Rises low (a + 1) ks → walked ops settle a w ks .sheet ≡ scenario.walked-upto ops settle (w .last) (w .sheet) (map (as-counted rule) ks)
+  first-part rule a low w [] h = refl
+  first-part rule a low w (k ∷ ks) h =
+      let early : leb (k .release) a ≡ true = le-leb (k .release) a (omega (arith, h .1)) in
+      let to : Walk K = record { last = k .release; sheet = added ops 0 (passed ops (k .release - w .last) (w .sheet)) (k .entry .pairs) } in
+      let done : Walk K → Walk K = λ v. record { last = v .last; sheet = settle (k .entry .pairs) (v .sheet) } in
+      ap (λ v. walked ops settle a (done v) ks .sheet) (cond-true (leb (k .release) a) to _ early) ∙ first-part rule a (k .release) (done to) ks (h .2)
+
+  -- after it
+  second-part : (rule : Rule) (a low high : ℕ) (w : Walk K) (ks : List Job) → a < low → Rises low high ks → walked ops settle a w ks .sheet ≡ scenario.walked-later ops settle a (w .sheet) (map (as-counted rule) ks)
+  second-part rule a low high w [] lt h = refl
+  second-part rule a low high w (k ∷ ks) lt h =
+      let late : leb (k .release) a ≡ false = lt-leb (k .release) a (omega (arith, h .0)) in
+      let to : Walk K = record { last = w .last; sheet = added ops (k .release - a + 1) (w .sheet) (k .entry .pairs) } in
+      let done : Walk K → Walk K = λ v. record { last = v .last; sheet = settle (k .entry .pairs) (v .sheet) } in
+      ap (λ v. walked ops settle a (done v) ks .sheet) (cond-false (leb (k .release) a) _ to late) ∙ second-part rule a (k .release) high (done to) ks (omega (arith, h .0)) (h .2)
 
 module _ (rule : Rule) (ps : List (Option Entry)) (opening : List Pair) (j : Job) where
   upto-list : List Job
@@ -66,18 +73,19 @@ module _ (rule : Rule) (ps : List (Option Entry)) (opening : List Pair) (j : Job
   unfolding counted
   split = sym (append-assoc (counted-before rule ps j) (j ∷ []) (counted-later rule ps j))
 
-  sheet-same : walked (j .release) (begun opening) (counted rule ps j) .sheet ≡ scenario.rounded-sheet (question-over rule ps opening j)
-  unfolding begun settled scenario.walked
-  sheet-same =
+  pub sheet-same : {K : Type 0} (ops : Ops K) (settle : Settling K) (x : K) → walked-sheet ops settle x rule ps opening j ≡ scenario.walked ops settle x (question-over rule ps opening j)
+  unfolding begun scenario.walked
+  sheet-same ops settle x =
       let a = j .release in
-      let mid = walked a (begun opening) (counted-before rule ps j ++ (j ∷ [])) in
-      ap (λ ks. walked a (begun opening) ks .sheet) split
-      ∙ ap (λ v. v .sheet) (walked-append a (begun opening) (counted-before rule ps j ++ (j ∷ [])) (counted-later rule ps j))
-      ∙ second-part rule a (a + 1) (a + 1 + (j .entry .deadline - 1)) mid (counted-later rule ps j) (omega arith) rises-later-jobs
-      ∙ ap (λ f. scenario.walked-later count-ops scenario.settled a f (map (as-counted rule) (counted-later rule ps j)))
-      (first-part rule a 0 (begun opening) (counted-before rule ps j ++ (j ∷ [])) rises-upto
-      ∙ ap (scenario.walked-upto count-ops scenario.settled 0 (begun opening .sheet)) upto-same)
+      let start = begun ops settle x opening in
+      let mid = walked ops settle a start (counted-before rule ps j ++ (j ∷ [])) in
+      ap (λ ks. walked ops settle a start ks .sheet) split
+      ∙ ap (λ v. v .sheet) (walked-append ops settle a start (counted-before rule ps j ++ (j ∷ [])) (counted-later rule ps j))
+      ∙ second-part ops settle rule a (a + 1) (a + 1 + (j .entry .deadline - 1)) mid (counted-later rule ps j) (omega arith) rises-later-jobs
+      ∙ ap (λ f. scenario.walked-later ops settle a f (map (as-counted rule) (counted-later rule ps j)))
+      (first-part ops settle rule a 0 start (counted-before rule ps j ++ (j ∷ [])) rises-upto
+      ∙ ap (scenario.walked-upto ops settle 0 (start .sheet)) upto-same)
 
   pub late-same : late-over rule ps opening j ≡ scenario.rounded-late (question-over rule ps opening j)
   unfolding scenario.rounded-late
-  late-same = ap (λ f. tail count-ops f (j .entry .deadline + 1) .value) sheet-same
+  late-same = ap (λ f. tail count-ops f (j .entry .deadline + 1) .value) (sheet-same count-ops scenario.settled (count-of 1048576))

@@ -15,7 +15,7 @@ returns g c =
     let long : length xs ≡ 257 = omega (arith, c .pre .1 .1) in
     let low : i < 257 = omega arith in
     let read = getD-read xs i (c .index-sheet-job .result) (omega arith) (c .index-sheet-job .is) (counted 0) in
-    let at = ap (λ f. f i) (c .in-Continue-tails .ensures tt .1) ∙ tailed-at count-ops (cells count-ops (c .walk .last .sheet)) i low in (
-      c .value-late .ensures ∙ ap (λ x. x .value) (read ∙ at ∙ ap (λ f. tail count-ops f i) (c .in-Continue-walk .ensures tt)),
-      λ k. ap (λ f. f k) (c .in-Continue-clear .ensures tt .1) ∙ cleared-nought xs k long,
+    let at = ap (λ f. f i) (c .in-Continue-tails .ensures tt .1) ∙ tailed-at count-ops (cells count-ops (c .walk-rounded .last .sheet)) i low in (
+      c .value-late .ensures ∙ ap (λ x. x .value) (read ∙ at ∙ ap (λ f. tail count-ops f i) (c .in-Continue-walk-rounded .ensures tt)),
+      λ k. ap (λ f. f k) (c .in-Continue-clear .ensures tt .1) ∙ cleared-nought count-ops xs k long,
     )

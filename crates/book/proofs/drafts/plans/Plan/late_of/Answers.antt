@@ -3,6 +3,7 @@ use mathlib.Core.Path.{_≡_, sym, ap, subst, _∙_}
 use native.Mathlib.Omega.{arith}
 use borrow.Author.Needs.{needs}
 use lib.ListN.{length}
+use Rattle.kinds.specs.Counts.{count-ops}
 use Rattle.book.specs.Drafts.{plan-book}
 use Rattle.book.specs.Found.{job-of}
 use Rattle.book.specs.Walk.{late-over}
@@ -25,5 +26,5 @@ returns g c =
     let long : length (c .rounded-late .last .sheet) ≡ 257 = search needs in (
       is,
       subst P (sym was) (late-bound rule (b .places) (b .opening) j),
-      swept-part (c .args .sheet .now) (c .rounded-late .last .sheet) long (told .1),
+      swept-part count-ops (c .args .sheet .now) (c .rounded-late .last .sheet) long (told .1),
     )

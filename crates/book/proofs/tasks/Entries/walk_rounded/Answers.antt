@@ -1,19 +1,25 @@
 use mathlib.Core.Path.{_≡_, sym, _∙_, ap}
 use native.Mathlib.Omega.{arith}
+use Rattle.kinds.specs.Counts.{count-ops, counted as count-of}
+use Rattle.analysis.specs.Cells.{cells, added}
+use Rattle.scenarios.specs.Walks.{lone, settled}
 use Rattle.book.specs.Places.{places, entry-of}
 use Rattle.book.specs.Found.{job-of, left}
 use Rattle.book.specs.Walk.{begun, walked}
 use Rattle.book.proofs.At.{ranges-at}
-use Rattle.book.proofs.tasks.Entries.walk.Needs as need
+use Rattle.book.proofs.tasks.Entries.walk_rounded.Needs as need
 
 pub loop-next-holds : need.loop-next-holds
 unfolding begun
 loop-next-holds g c =
     let rule = g .R·Ranking .ranks (c .args .rule .now) in
     let j = job-of (c .args .job .now) in
+    let opening = c .args .opening .now in
     let rest = left rule (places (c .args .self .now)) j (c .before-counted-cursor .result) in
-    ap (λ f. walked (j .release) (record { last = 0; sheet = f }) rest) (c .in-Continue-begin .ensures tt)
-    ∙ ap (walked (j .release) (begun (c .args .opening .now))) (c .before-counted-cursor .ensures rule)
+    let x = c .new .ensures .one (count-of 1048576) (omega arith) in
+    let laid = c .in-Continue-round-by .ensures tt .1 ∙ ap (settled opening) (c .in-Continue-begin .ensures tt ∙ ap (λ v. added count-ops 0 (lone count-ops v) opening) x) in
+    ap (λ f. walked count-ops settled (j .release) (record { last = 0; sheet = f }) rest) laid
+    ∙ ap (walked count-ops settled (j .release) (begun count-ops settled (count-of 1048576) opening)) (c .before-counted-cursor .ensures rule)
 
 pub count-in-requires : need.count-in-requires
 count-in-requires g c κs =
