@@ -15,3 +15,5 @@ pub mod Plans
 pub mod Reach
 pub mod Walked
 pub mod Sound
+pub mod Gathered
+pub mod Answered

@@ -2,7 +2,7 @@
 use Prim.Native.Nat.{ℕ, _+_, _-_}
 use mathlib.Core.List.{List, [], _∷_}
 use mathlib.Core.Bool.{cond}
-use lib.Dec.{leb}
+use lib.Dec.{leb, ltb, eqb}
 use Rattle.std.specs.declared.option.Option.{Option}
 use Rattle.theory.specs.Semiring.{Ops}
 use Rattle.kinds.specs.declared.count.Count.{Count}
@@ -41,3 +41,8 @@ walked-sheet ops settle x rule ps opening j = walked ops settle (j .release) (be
 -- the tail after the deadline, in the rounded walk
 abbrev pub late-over : Rule → List (Option Entry) → List Pair → Job → ℕ
 late-over rule ps opening j = tail count-ops (walked-sheet count-ops settled (count-of 1048576) rule ps opening j) (j .entry .deadline + 1) .value
+
+-- cells up to the deadline stay, those between are nought, and cell 256 has the tail after the deadline
+unfoldable pub gathered-late : {K : Type 0} → Ops K → ℕ → (ℕ → K) → ℕ → K
+gathered-late ops deadline f k =
+    cond (leb k deadline) (f k) (cond (ltb k 256) (ops .nought) (cond (eqb k 256) (tail ops f (deadline + 1)) (f k)))

@@ -3,6 +3,7 @@
 use crate::tasks::Task;
 
 mod counted;
+mod exact;
 mod releases;
 mod walk;
 

@@ -32,7 +32,7 @@ use analysis::total;
 const WHOLE: u64 = 1048576;
 
 /// Lays the opening table out on a sheet of 257 cells, from `x` at the time 0.
-fn begin<W: Weight>(sheet: &mut [W], x: W, opening: &[Pair]) -> Result<(), SheetRefusal>
+pub(crate) fn begin<W: Weight>(sheet: &mut [W], x: W, opening: &[Pair]) -> Result<(), SheetRefusal>
     requires { ⌜ length (now sheet) ≡ 257 ⌝ }
     ensures { λ r. ⌜ Cases r (λ _. cells ops (now (sheet .exit)) ≡ added ops 0 (lone ops x) (now (opening .entry))) (λ _. ⊥) ⌝ }
 {
@@ -43,7 +43,7 @@ fn begin<W: Weight>(sheet: &mut [W], x: W, opening: &[Pair]) -> Result<(), Sheet
 }
 
 /// Counts one job on a sheet, for a job released at `release`, and answers the last counted release that time has passed to.
-fn count_in<W: Weight>(
+pub(crate) fn count_in<W: Weight>(
     sheet: &mut [W],
     last: u32,
     release: u32,
