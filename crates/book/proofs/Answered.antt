@@ -7,7 +7,7 @@ use mathlib.Core.Logic.{⊎-elim}
 use native.Mathlib.Omega.{arith}
 use lib.Dec.{leb, ltb, eqb}
 use Rattle.std.specs.declared.option.Option.{Option}
-use Rattle.std.proofs.shelf.Tests.{cases-lt, cases-eq, cond-true, cond-false, le-leb, lt-leb, lt-ltb, le-ltb, eq-eqb}
+use Rattle.std.proofs.shelf.Tests.{cases-lt, cases-eq, cond-true, cond-false, le-leb, lt-leb, lt-ltb, le-ltb, eq-eqb, ne-eqb}
 use Rattle.theory.specs.Semiring.{Ops, Laws}
 use Rattle.analysis.specs.declared.pair.Pair.{Pair}
 use Rattle.analysis.specs.Cells.{tail}
@@ -48,3 +48,9 @@ module _ {K : Type 0} {o : Ops K} {least : K → K → Type 0} (laws : Laws o le
   exact-answer rule ps opening j old ok first s k h =
       ap (λ f. gathered-late o (j .entry .deadline) f k) (sheet-same rule ps opening j o unsettled (o .unit))
       ∙ gathered-answer (question-over rule ps opening j) old (exact-answers laws (question-over rule ps opening j) (sound-question rule ps opening j ok first s)) k h
+
+-- cells after the first 257 stay
+pub answer-past : {K : Type 0} (o : Ops K) (q : Question) (f : ℕ → K) (k : ℕ) → q .deadline ≤ 254 → 257 ≤ k → answer o q f k ≡ f k
+unfolding answer
+answer-past o q f k small h =
+    cond-false _ _ _ (lt-leb k (q .deadline) (omega arith)) ∙ cond-false _ _ _ (le-ltb k 256 (omega arith)) ∙ cond-false _ _ _ (ne-eqb k 256 (λ e. omega arith))

@@ -7,15 +7,13 @@ use Rattle.std.specs.declared.option.Option.{Option}
 use Rattle.std.specs.declared.option.Option.the-variants.{Some, None}
 use Rattle.std.specs.declared.result.Result.{Result}
 use Rattle.std.specs.declared.result.Result.the-variants.{Ok, Err}
-use Rattle.kinds.specs.declared.count.Count.{Count}
-use Rattle.kinds.specs.Counts.{count-ops}
 use Rattle.analysis.specs.Cells.{cleared}
 use Rattle.book.specs.declared.lateness.TaskLateness.{TaskLateness}
 use Rattle.book.specs.Model.{Entry, Book, hyperperiod, window}
 use Rattle.book.specs.Jobs.{Rule, Job, due, release-of, asked}
 use Rattle.scenarios.specs.Walks.{rounded-late as late-of-question}
 use Rattle.theory.specs.Semiring.{Ops}
-use Rattle.scenarios.specs.Questions.{weight-of-all}
+use Rattle.scenarios.specs.Questions.{weight-of-all, answer}
 use Rattle.book.specs.Questions.{question-of}
 
 -- two sheets that both have 257 cells or more, by their lengths
@@ -90,6 +88,16 @@ pub record Released-in (b : Book) (e : Entry) (round from n : ℕ) : Type 0 wher
   pub after : (i : ℕ) → from + n ≤ i → (round + 1) * hyperperiod (b .places) ≤ release-of e i
 
 -- an answered question leaves the first 257 cells nought, and a refused one leaves all cells
-abbrev pub swept : {X : Type 0} → Result X ℕ → (ℕ → Count) → ℕ → Count
-swept (Ok _) f = cleared count-ops f
-swept (Err _) f = f
+abbrev pub swept : {X K : Type 0} → Ops K → Result X ℕ → (ℕ → K) → ℕ → K
+swept ops (Ok _) f = cleared ops f
+swept ops (Err _) f = f
+
+-- an answered exact question leaves the answer of its job, and a refused one leaves all cells
+abbrev pub filled : {K : Type 0} → Ops K → Rule → Book → Result Job ℕ → (ℕ → K) → ℕ → K
+filled ops rule b (Ok j) f = answer ops (question-of rule b j) f
+filled ops rule b (Err n) f = f
+
+-- whether a question is answered, or the number of its refusal
+abbrev pub answered : {X : Type 0} → Result X ℕ → Result (Unit {0}) ℕ
+answered (Ok _) = Ok tt
+answered (Err n) = Err n

@@ -3,7 +3,7 @@ use Prim.Native.Nat.{ℕ}
 use Rattle.std.specs.declared.result.Result.{Result}
 use Rattle.std.specs.declared.result.Result.the-variants.{Ok, Err}
 use Rattle.book.specs.declared.refusals.Refusal.{Refusal}
-use Rattle.book.specs.declared.refusals.Refusal.the-variants.{Place, Period, Phase, Deadline, Table, Hyperperiod, Jobs, Empty, Rounds, Sheet, NoJob, Window}
+use Rattle.book.specs.declared.refusals.Refusal.the-variants.{Place, Period, Phase, Deadline, Table, Hyperperiod, Jobs, Empty, Rounds, Sheet, NoJob, Window, TooHeavy}
 
 abbrev pub number : Refusal → ℕ
 number Place = 1
@@ -18,6 +18,7 @@ number Rounds = 9
 number Sheet = 10
 number NoJob = 11
 number Window = 12
+number TooHeavy = 13
 
 abbrev pub answer : {X : Type 0} → Result X Refusal → ℕ
 answer (Ok _) = 0

@@ -31,6 +31,8 @@ pub enum Refusal {
     NoJob = 11,
     /// The job's deadline falls after the window's end.
     Window = 12,
+    /// The weight of all scenarios of the job is the kind's top.
+    TooHeavy = 13,
 }
 
 impl Refusal {

@@ -10,6 +10,7 @@ use crate::drafts::Draft;
 use crate::tasks::Task;
 
 mod asks;
+mod exact;
 mod rounds;
 
 /// An issued book: it answers questions, and is reopened to be edited.

@@ -87,7 +87,7 @@ impl Entries {
         sheet: &mut [W],
     ) -> Result<(), SheetRefusal>
         requires { ⌜ all-lawful (places (now self)) ≡ true ⌝ ∗ ⌜ Stands (places (now self)) (job-of (now job)) ⌝ ∗ ⌜ length (now sheet) ≡ 257 ⌝ ∗ ⌜ lawful (now opening) ≡ true ⌝ }
-        ensures { λ r. ⌜ Cases r (λ _. (k : ℕ) → k < 257 → cells ops (now (sheet .exit)) k ≡ answer ops (question-over (R·Ranking .ranks (now (rule .entry))) (places (now (self .entry))) (now (opening .entry)) (job-of (now (job .entry)))) (cells ops (now (sheet .entry))) k) (λ _. ⊥) ⌝ }
+        ensures { λ r. ⌜ Cases r (λ _. (old : ℕ → W) (k : ℕ) → k < 257 → cells ops (now (sheet .exit)) k ≡ answer ops (question-over (R·Ranking .ranks (now (rule .entry))) (places (now (self .entry))) (now (opening .entry)) (job-of (now (job .entry)))) old k) (λ _. ⊥) ⌝ }
     {
         self.walk_exact(rule, job, opening, sheet)?;
         gather_late(sheet, job.task.deadline);

@@ -24,7 +24,7 @@ use analysis::clear;
 
 impl Plan {
     /// Job `index` of the task at a place, if the window has it and its deadline.
-    fn job(&self, place: u8, index: u32) -> Result<Job, Refusal>
+    pub(super) fn job(&self, place: u8, index: u32) -> Result<Job, Refusal>
         ensures finds { λ r. ⌜ granted-job r ≡ granted (plan-book (now (self .entry))) (asked (plan-book (now (self .entry))) place index) ⌝ }
         ensures stands { λ r. ⌜ Cases r (λ j. Stands (plan-book (now (self .entry)) .places) (job-of j)) (λ _. Unit {0}) ⌝ }
     {
@@ -74,8 +74,8 @@ impl Plan {
         work: &mut [Count],
     ) -> Result<u64, Refusal>
         ensures answers { λ r. ⌜ told r ≡ rounded-answer (R·Ranking .ranks (now (rule .entry))) (plan-book (now (self .entry))) place index (length (now (answer .entry))) (length (now (work .entry))) ⌝ }
-        ensures leaves_answer { λ r. ⌜ cells count-ops (now (answer .exit)) ≡ swept (told r) (cells count-ops (now (answer .entry))) ⌝ }
-        ensures leaves_work { λ r. ⌜ cells count-ops (now (work .exit)) ≡ swept (told r) (cells count-ops (now (work .entry))) ⌝ }
+        ensures leaves_answer { λ r. ⌜ cells count-ops (now (answer .exit)) ≡ swept count-ops (told r) (cells count-ops (now (answer .entry))) ⌝ }
+        ensures leaves_work { λ r. ⌜ cells count-ops (now (work .exit)) ≡ swept count-ops (told r) (cells count-ops (now (work .entry))) ⌝ }
     {
         if answer.len() < 257 || work.len() < 257 {
             return Err(Refusal::Sheet);

@@ -87,8 +87,8 @@ impl Plan {
         work: &mut [Count],
     ) -> Result<TaskLateness, Refusal>
         ensures answers { λ r. ⌜ told r ≡ task-answer (R·Ranking .ranks (now (rule .entry))) (plan-book (now (self .entry))) place round (length (now (answer .entry))) (length (now (work .entry))) ⌝ }
-        ensures leaves_answer { λ r. ⌜ cells count-ops (now (answer .exit)) ≡ swept (told r) (cells count-ops (now (answer .entry))) ⌝ }
-        ensures leaves_work { λ r. ⌜ cells count-ops (now (work .exit)) ≡ swept (told r) (cells count-ops (now (work .entry))) ⌝ }
+        ensures leaves_answer { λ r. ⌜ cells count-ops (now (answer .exit)) ≡ swept count-ops (told r) (cells count-ops (now (answer .entry))) ⌝ }
+        ensures leaves_work { λ r. ⌜ cells count-ops (now (work .exit)) ≡ swept count-ops (told r) (cells count-ops (now (work .entry))) ⌝ }
         ensures small { λ r. ⌜ Cases r (λ x. (x .jobs ≤ 64) × (x .late ≤ 1048576 * x .jobs)) (λ _. Unit {0}) ⌝ }
         ensures covers { λ r. ⌜ Cases r (λ x. (e : Entry) → getD (plan-book (now (self .entry)) .places) place None ≡ Some e → Released-in (plan-book (now (self .entry))) e round (round * x .jobs) (x .jobs)) (λ _. Unit {0}) ⌝ }
     {

@@ -16,10 +16,10 @@ gather-late-requires g c κs =
     (omega (arith, c .pre .1 .1 .0), r .deadline-high)
 
 pub returns : need.returns
-returns g c k h =
+returns g c old k h =
     let o = g .W·Weight .ops in
     let rule = g .R·Ranking .ranks (c .args .rule .now) in
     let j = job-of (c .args .job .now) in
     ap (λ f. f k) (c .gather-late .ensures)
     ∙ ap (λ f. gathered-late o (j .entry .deadline) f k) (c .in-Continue-walk-exact .ensures tt)
-    ∙ exact-answer (g .W·Weight .laws) rule (places (c .args .self .now)) (c .args .opening .now) j (cells o (c .args .sheet .now)) (c .pre .0) (c .pre .1 .1 .1) (c .pre .1 .0) k h
+    ∙ exact-answer (g .W·Weight .laws) rule (places (c .args .self .now)) (c .args .opening .now) j old (c .pre .0) (c .pre .1 .1 .1) (c .pre .1 .0) k h
