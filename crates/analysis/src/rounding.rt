@@ -7,11 +7,11 @@ ghost use Rattle.kinds.specs.Counts.{counted, count-ops};
 ghost use Rattle.analysis.specs.Inner.{joint};
 ghost use Rattle.analysis.specs.Rounding.{lessened, rounded-off};
 ghost use Rattle.analysis.specs.Sheets.{Done};
-use kinds::Count;
-use kinds::CountWeight;
 use super::sheet_refusal::SheetRefusal;
 use super::spans::long_enough;
 use super::tailing::gather_tails;
+use kinds::Count;
+use kinds::CountWeight;
 
 // The quotient, and one more where a remainder is left; 0 for the divisor 0.
 fn round_up(number: u64, by: u64) -> u64

@@ -20,7 +20,7 @@ use Rattle.book.specs.Model as model
 use Rattle.book.specs.Model.{Book, new-book}
 use Rattle.book.specs.Moves.{enter-refusal, entered, bound-refusal, with-places}
 use Rattle.book.specs.declared.refusals.Refusal.{Refusal}
-use Rattle.book.specs.declared.refusals.Refusal.the-variants.{Place, Period, Phase, Deadline, Table, Hyperperiod, Jobs, Empty, Rounds, Sheet, NoJob, Window}
+use Rattle.book.specs.declared.refusals.Refusal.the-variants.{Place, Period, Phase, Deadline, Table, Hyperperiod, Jobs, Empty, Rounds, Sheet, NoJob, Window, TooHeavy}
 use Rattle.book.specs.Refusals.{number}
 use Rattle.book.specs.Pairs.{lawful, rising, weighted}
 use Rattle.planfile.specs.declared.contents.Entry.{Entry}
@@ -220,6 +220,7 @@ numbered Rounds = (omega arith, λ e. absurd (omega arith))
 numbered Sheet = (omega arith, λ e. absurd (omega arith))
 numbered NoJob = (omega arith, λ e. absurd (omega arith))
 numbered Window = (omega arith, λ e. absurd (omega arith))
+numbered TooHeavy = (omega arith, λ e. absurd (omega arith))
 
 -- where a refusal is told
 module _ (f : List ℕ) (e : Entry) where

@@ -20,8 +20,7 @@ loop-x-again g c =
     let y = c .nought .result in
     let inv = c .loop-x .inv in
     let here : x < length xs = omega (arith, c .pre .0) in
-    let read = getD-read xs x (c .index-sheet-x .result) here (c .index-sheet-x .is) (o .nought) ∙ inv .4 x (omega arith) in
-    (
+    let read = getD-read xs x (c .index-sheet-x .result) here (c .index-sheet-x .is) (o .nought) ∙ inv .4 x (omega arith) in (
       omega (arith, inv .0),
       c .sum-late .ensures ∙ ap (λ v. o .sum v (c .index-sheet-x .result)) (inv .1) ∙ ap (o .sum (span o old first (x - first))) read ∙ sym (span-more o old first x (inv .0)),
       (λ k h. other-cell o xs x k y (λ e. omega (arith, inv .0)) ∙ inv .2 k h),
