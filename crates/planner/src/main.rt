@@ -2,6 +2,9 @@
 ghost use Prim.Native.Nat.{_≤_};
 ghost use lib.ListN.{length};
 ghost use Rattle.std.specs.Vec.{made};
+use analysis::Count;
+use analysis::CountWeight;
+use guarantees::slower_never_better;
 use planfile::report;
 use std::io;
 use std::io::Read;
@@ -28,6 +31,7 @@ fn read_plan(rt: &LibcRuntime, bytes: &mut [u8]) -> io::Result<usize>
 }
 
 fn main(rt: LibcRuntime) -> io::Result<()> {
+    slower_never_better::<Count>();
     let mut file = [0u8; MOST];
     let len = read_plan(&rt, &mut file)?;
     let mut page = [0u8; 512];
