@@ -1,9 +1,9 @@
 -- The law holds along every run of calls, since every call keeps the two books alike.
-use mathlib.Core.Path.{_≡_, sym, subst₂}
+use mathlib.Core.Path.{sym, subst₂}
 use mathlib.Core.List.{List, [], _∷_}
 use Rattle.theory.specs.Semiring.{Ops, Laws}
 use Rattle.book.specs.Model.{Book}
-use Rattle.guarantees.specs.Runs.{Edit, Question, Call, edit, issue, ask, reopen, Books, new-books, tables-of, after, Both, Together}
+use Rattle.guarantees.specs.Runs.{Edit, Call, edit, issue, ask, reopen, Books, new-books, tables-of, after, Both, Together}
 use Rattle.guarantees.specs.Law.{Holds, Holds-along, Law}
 use Rattle.guarantees.proofs.Twins.{books}
 use Rattle.guarantees.proofs.Next.{Kept, next, new-kept}

@@ -2,10 +2,10 @@
 use Prim.Native.Nat.{ℕ, zero, suc, _+_, _*_, _^_, _≤_}
 use mathlib.Core.Path.{_≡_, refl, sym, ap, subst, subst₂, _∙_}
 use mathlib.Core.List.{List}
-use mathlib.Core.Bool.{Bool, true, false, cond, _&&_}
+use mathlib.Core.Bool.{Bool, true, false, cond}
 use native.Mathlib.Omega.{arith}
 use native.Mathlib.Nat.{add-le-add}
-use lib.Dec.{leb, ltb}
+use lib.Dec.{ltb}
 use lib.ListN.{getD, length}
 use Rattle.std.specs.declared.option.Option.{Option}
 use Rattle.std.specs.declared.option.Option.the-variants.{Some, None}
@@ -16,7 +16,7 @@ use Rattle.theory.specs.Semiring.{Ops, Laws}
 use Rattle.theory.specs.Rounded.{nat-ops, totals, Close}
 use Rattle.kinds.specs.Counts.{count-ops, count-least}
 use Rattle.scenarios.specs.Questions.{Question as Job-question, tables, weight-of, weight-of-all}
-use Rattle.scenarios.specs.Theorems.{Sound, Worse-question, Never-better}
+use Rattle.scenarios.specs.Theorems.{Sound, Never-better}
 use Rattle.scenarios.proofs.Exact.{exact-never-better}
 use Rattle.scenarios.proofs.RoundedClose.{rounded-close, rounded-never-better}
 use Rattle.book.specs.declared.lateness.TaskLateness.{TaskLateness}
@@ -30,7 +30,7 @@ use Rattle.guarantees.specs.Law.{All-slower, Compare, Later, Later-round, Near
 use Rattle.guarantees.proofs.Twins.{Two, Twin, place-for, entry-for, book-for, books, at-place, within-same, all-within-same, round-jobs-same}
 use Rattle.guarantees.proofs.Lawful.{Lawful-book, found-sound}
 use Rattle.guarantees.proofs.Slow.{worse-question, slow-at}
-use Rattle.guarantees.proofs.Next.{Good, Slow}
+use Rattle.guarantees.proofs.Next.{Good}
 use Rattle.guarantees.proofs.Asked.{asks, granted-sound, no-answer}
 
 -- a rounded answer is close to the exact one

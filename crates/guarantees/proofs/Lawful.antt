@@ -1,18 +1,18 @@
 -- Each call on a lawful book leaves it lawful.
-use Prim.Native.Nat.{ℕ, _+_, _*_, _≤_}
-use mathlib.Core.Path.{_≡_, refl, ap, sym, _∙_}
+use Prim.Native.Nat.{ℕ, _≤_}
+use mathlib.Core.Path.{_≡_, refl, sym, _∙_}
 use mathlib.Core.List.{List}
 use mathlib.Core.Bool.{Bool, true, false, cond, _&&_}
 use native.Mathlib.Nat.{le-trans}
 use lib.Dec.{eqb, leb, ltb}
-use lib.ListN.{length, getD, set, length-set, replicate}
+use lib.ListN.{length, getD, set, length-set}
 use Rattle.std.specs.declared.option.Option.{Option}
 use Rattle.std.specs.declared.option.Option.the-variants.{Some, None}
 use Rattle.std.proofs.shelf.Tests.{and-parts, and-from, leb-true, false≢true}
 use Rattle.analysis.specs.declared.pair.Pair.{Pair}
 use Rattle.scenarios.specs.Theorems.{Sound}
 use Rattle.book.specs.Pairs.{lawful}
-use Rattle.book.specs.Model.{Entry, Book, new-book, entry-lawful, all-lawful, hyperperiod, jobs, bounded, book-lawful, window}
+use Rattle.book.specs.Model.{Entry, Book, new-book, all-lawful, hyperperiod, jobs, bounded, book-lawful, window}
 use Rattle.book.specs.Jobs.{Rule, due}
 use Rattle.book.specs.Moves.{enter-refusal, with-places}
 use Rattle.book.specs.Questions.{question-of}

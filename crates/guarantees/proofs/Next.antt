@@ -1,10 +1,10 @@
 -- What two books keep from call to call.
 use Prim.Native.Nat.{ℕ}
-use mathlib.Core.Path.{_≡_, refl, sym, ap, subst, _∙_}
+use mathlib.Core.Path.{_≡_, refl, sym, ap, subst}
 use mathlib.Core.List.{List, [], _∷_, _++_}
 use mathlib.Core.Bool.{Bool, true, false, cond, _&&_}
 use lib.Dec.{eqb, leb}
-use lib.ListN.{set, getD, replicate}
+use lib.ListN.{set, replicate}
 use Rattle.std.specs.declared.option.Option.{Option}
 use Rattle.std.specs.declared.option.Option.the-variants.{Some, None}
 use Rattle.std.proofs.shelf.Lists.{map-set}
@@ -12,7 +12,7 @@ use Rattle.std.proofs.shelf.Tests.{true≢false, false≢true}
 use Rattle.theory.specs.Semiring.{Ops, Laws}
 use Rattle.kinds.specs.Counts.{count-ops, count-least, count-laws}
 use Rattle.book.specs.Pairs.{lawful, no-work}
-use Rattle.book.specs.Model.{Book, new-book}
+use Rattle.book.specs.Model.{Book}
 use Rattle.book.specs.Moves.{enter-refusal, withdraw-refusal, with-places}
 use Rattle.guarantees.specs.Runs.{Side, one, other, Tables, Books, Edit, edit, tables-of, new-books, after, Both}
 use Rattle.guarantees.specs.Runs.{enter, withdraw, opening, rounds}

@@ -2,7 +2,7 @@
 use Prim.Native.Nat.{ℕ, zero, suc, _+_, _-_}
 use mathlib.Core.Path.{_≡_, refl, sym, subst, subst₂}
 use mathlib.Core.List.{List, [], _∷_, _++_, map}
-use mathlib.Core.Bool.{Bool, true, false, cond, _&&_}
+use mathlib.Core.Bool.{true, false, cond, _&&_}
 use lib.ListN.{getD, set}
 use Rattle.std.specs.declared.option.Option.{Option}
 use Rattle.std.specs.declared.option.Option.the-variants.{Some, None}
@@ -13,9 +13,9 @@ use Rattle.scenarios.specs.Theorems.{Harder, Worse-question}
 use Rattle.book.specs.Jobs.{Rule, Job, releases, ahead, ahead-at, ahead-from, ahead-in}
 use Rattle.book.specs.Questions.{as-counted, question-of}
 use Rattle.book.proofs.At.{not-none}
-use Rattle.guarantees.specs.Runs.{Side, one, other, Tables}
+use Rattle.guarantees.specs.Runs.{Side, one, other}
 use Rattle.guarantees.specs.Law.{Slower}
-use Rattle.guarantees.proofs.Twins.{Two, Twin, entry-for, place-for, places-for, book-for}
+use Rattle.guarantees.proofs.Twins.{Two, Twin, entry-for, places-for, book-for}
 
 module _ {K : Type 0} (ops : Ops K) (least : K → K → Type 0) where
   abbrev pub Slow-places : List (Option Two) → Type 0
