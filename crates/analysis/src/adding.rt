@@ -10,14 +10,14 @@ use theory::Weight;
 
 // The weight of a pair, in the kind.
 fn weighed<W: Weight>(pair: Pair) -> W
-    ensures { result ≡ ops.read pair.weight }
+    ensures { result ≡ W.ops.read pair.weight }
 {
     W::read(pair.weight as u32)
 }
 
 /// The sum of the table's weights.
 pub fn total<W: Weight>(table: &[Pair]) -> W
-    ensures { result ≡ total ops table.now }
+    ensures { result ≡ total W.ops table.now }
 {
     let mut all = W::nought();
     for pair in table {
@@ -29,7 +29,7 @@ pub fn total<W: Weight>(table: &[Pair]) -> W
 // What one pair brings to the time `x` from the times at or above `low`.
 fn brought<W: Weight>(sheet: &[W], low: usize, pair: Pair, x: usize) -> W
     requires { (x < length sheet.now) × (low ≤ 256) }
-    ensures { result ≡ share ops low (cells ops sheet.now) x pair }
+    ensures { result ≡ share W.ops low (cells W.ops sheet.now) x pair }
 {
     let t = pair.time as usize;
     if low + t <= x {
@@ -42,7 +42,7 @@ fn brought<W: Weight>(sheet: &[W], low: usize, pair: Pair, x: usize) -> W
 // What comes to the time `x` from the times at or above `low`.
 fn arrived<W: Weight>(sheet: &[W], low: usize, table: &[Pair], x: usize) -> W
     requires { (x < length sheet.now) × (low ≤ 256) }
-    ensures { result ≡ arriving ops low (cells ops sheet.now) table.now x }
+    ensures { result ≡ arriving W.ops low (cells W.ops sheet.now) table.now x }
 {
     let mut all = W::nought();
     for pair in table {
@@ -54,7 +54,7 @@ fn arrived<W: Weight>(sheet: &[W], low: usize, table: &[Pair], x: usize) -> W
 // What one pair brings beyond the last time from the times at or above `low`.
 fn carried<W: Weight>(sheet: &[W], low: usize, pair: Pair) -> W
     requires { (257 ≤ length sheet.now) × (low ≤ 256) }
-    ensures { result ≡ excess ops low (cells ops sheet.now) pair }
+    ensures { result ≡ excess W.ops low (cells W.ops sheet.now) pair }
 {
     let from = low.max(256 - pair.time as usize);
     gathered(sheet, from, 257).product(weighed(pair))
@@ -63,7 +63,7 @@ fn carried<W: Weight>(sheet: &[W], low: usize, pair: Pair) -> W
 // What comes beyond the last time from the times at or above `low`.
 fn overrun<W: Weight>(sheet: &[W], low: usize, table: &[Pair]) -> W
     requires { (257 ≤ length sheet.now) × (low ≤ 256) }
-    ensures { result ≡ overdue ops low (cells ops sheet.now) table.now }
+    ensures { result ≡ overdue W.ops low (cells W.ops sheet.now) table.now }
 {
     let mut all = W::nought();
     for pair in table {
@@ -75,7 +75,7 @@ fn overrun<W: Weight>(sheet: &[W], low: usize, table: &[Pair]) -> W
 // Brings the times at or above `low` to where the table leads.
 fn spread<W: Weight>(sheet: &mut [W], low: usize, table: &[Pair])
     requires { (257 ≤ length sheet.old) × (low ≤ 256) }
-    ensures { cells ops sheet.new ≡ spreading ops low (cells ops sheet.old) table.now }
+    ensures { cells W.ops sheet.new ≡ spreading W.ops low (cells W.ops sheet.old) table.now }
 {
     for x in (low..256).rev() {
         sheet[x] = arrived(sheet, low, table, x);
@@ -85,7 +85,7 @@ fn spread<W: Weight>(sheet: &mut [W], low: usize, table: &[Pair])
 // Multiplies the cells below `low`.
 fn scale<W: Weight>(sheet: &mut [W], low: usize, by: W)
     requires { low ≤ length sheet.old }
-    ensures { cells ops sheet.new ≡ scaled ops low by (cells ops sheet.old) }
+    ensures { cells W.ops sheet.new ≡ scaled W.ops low by (cells W.ops sheet.old) }
 {
     for x in 0..low {
         sheet[x] = sheet[x].product(by);
@@ -95,7 +95,7 @@ fn scale<W: Weight>(sheet: &mut [W], low: usize, by: W)
 // Adds the table's times to the times at or above `low`, and multiplies the others by the table's total.
 fn add_above<W: Weight>(sheet: &mut [W], low: usize, table: &[Pair])
     requires { (257 ≤ length sheet.old) × (low ≤ 256) }
-    ensures { cells ops sheet.new ≡ added ops low (cells ops sheet.old) table.now }
+    ensures { cells W.ops sheet.new ≡ added W.ops low (cells W.ops sheet.old) table.now }
 {
     let beyond = overrun(sheet, low, table);
     spread(sheet, low, table);
@@ -105,7 +105,7 @@ fn add_above<W: Weight>(sheet: &mut [W], low: usize, table: &[Pair])
 
 /// Adds the table's times to each time of the sheet.
 pub fn add<W: Weight>(sheet: &mut [W], table: &[Pair]) -> Result<(), SheetRefusal>
-    ensures { Done ops result sheet.old sheet.new (λ f. added ops 0 f table.now) }
+    ensures { Done W.ops result sheet.old sheet.new (λ f. added W.ops 0 f table.now) }
 {
     long_enough(sheet)?;
     add_above(sheet, 0, table);
@@ -114,7 +114,7 @@ pub fn add<W: Weight>(sheet: &mut [W], table: &[Pair]) -> Result<(), SheetRefusa
 
 /// Adds the table's times to the times above `r`, and multiplies the others by the table's total.
 pub fn add_from<W: Weight>(sheet: &mut [W], r: u8, table: &[Pair]) -> Result<(), SheetRefusal>
-    ensures { Done ops result sheet.old sheet.new (λ f. added ops (r + 1) f table.now) }
+    ensures { Done W.ops result sheet.old sheet.new (λ f. added W.ops (r + 1) f table.now) }
 {
     long_enough(sheet)?;
     add_above(sheet, r as usize + 1, table);

@@ -19,7 +19,7 @@ pub fn long_enough<W: Weight>(sheet: &[W]) -> Result<(), SheetRefusal>
 // The sum of the cells from `from` to just before `to`.
 pub fn gathered<W: Weight>(sheet: &[W], from: usize, to: usize) -> W
     requires { (from ≤ to) × (to ≤ length sheet.now) }
-    ensures { result ≡ span ops (cells ops sheet.now) from (to - from) }
+    ensures { result ≡ span W.ops (cells W.ops sheet.now) from (to - from) }
 {
     let mut all = W::nought();
     for x in from..to {

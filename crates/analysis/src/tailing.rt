@@ -9,7 +9,7 @@ use theory::Weight;
 // Makes each cell up to 256 its tail, from the last one down.
 pub fn gather_tails<W: Weight>(sheet: &mut [W])
     requires { 257 ≤ length sheet.old }
-    ensures { cells ops sheet.new ≡ tailed ops (cells ops sheet.old) }
+    ensures { cells W.ops sheet.new ≡ tailed W.ops (cells W.ops sheet.old) }
 {
     for x in (0..256).rev() {
         sheet[x] = sheet[x].sum(sheet[x + 1]);
@@ -19,7 +19,7 @@ pub fn gather_tails<W: Weight>(sheet: &mut [W])
 // Makes each cell up to 256 nought.
 fn clear_cells<W: Weight>(sheet: &mut [W])
     requires { 257 ≤ length sheet.old }
-    ensures { cells ops sheet.new ≡ cleared ops (cells ops sheet.old) }
+    ensures { cells W.ops sheet.new ≡ cleared W.ops (cells W.ops sheet.old) }
 {
     for x in 0..257 {
         sheet[x] = W::nought();
@@ -28,7 +28,7 @@ fn clear_cells<W: Weight>(sheet: &mut [W])
 
 /// Makes each cell up to 256 its tail: the sum of the cells from it to 256.
 pub fn tails<W: Weight>(sheet: &mut [W]) -> Result<(), SheetRefusal>
-    ensures { Done ops result sheet.old sheet.new (tailed ops) }
+    ensures { Done W.ops result sheet.old sheet.new (tailed W.ops) }
 {
     long_enough(sheet)?;
     gather_tails(sheet);
@@ -37,7 +37,7 @@ pub fn tails<W: Weight>(sheet: &mut [W]) -> Result<(), SheetRefusal>
 
 /// Makes the first 257 cells nought.
 pub fn clear<W: Weight>(sheet: &mut [W]) -> Result<(), SheetRefusal>
-    ensures { Done ops result sheet.old sheet.new (cleared ops) }
+    ensures { Done W.ops result sheet.old sheet.new (cleared W.ops) }
 {
     long_enough(sheet)?;
     clear_cells(sheet);

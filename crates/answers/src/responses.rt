@@ -9,7 +9,7 @@ use theory::Weight;
 
 /// The cell of a sheet at a place, which is nought past the sheet's end.
 pub(crate) fn cell_at<W: Weight>(sheet: &[W], place: usize) -> W
-    ensures { result ≡ cells ops sheet.now place }
+    ensures { result ≡ cells W.ops sheet.now place }
 {
     if place < sheet.len() {
         sheet[place]
@@ -20,7 +20,7 @@ pub(crate) fn cell_at<W: Weight>(sheet: &[W], place: usize) -> W
 
 /// The cell of a sheet that holds what is late.
 pub(crate) fn late_cell<W: Weight>(sheet: &[W]) -> W
-    ensures { result ≡ cells ops sheet.now 256 }
+    ensures { result ≡ cells W.ops sheet.now 256 }
 {
     cell_at(sheet, 256)
 }
@@ -51,7 +51,7 @@ fn write_late<W: Printable>(cell: W, out: &mut Vec<u8>) -> Result<(), AllocError
 
 /// Writes the times of a sheet whose cell is not nought, rising, with their weights.
 fn write_times<W: Printable>(sheet: &[W], out: &mut Vec<u8>) -> Result<(), AllocError>
-    ensures { OnOk result (out.new.items ≡ out.old.items ++ times_text size text (cells W.Weight.ops sheet.now)) }
+    ensures { OnOk result (out.new.items ≡ out.old.items ++ times_text size text (cells W.ops sheet.now)) }
 {
     for time in 0..256 {
         write_time(time, cell_at(sheet, time), out)?;
@@ -62,7 +62,7 @@ fn write_times<W: Printable>(sheet: &[W], out: &mut Vec<u8>) -> Result<(), Alloc
 /// Writes the line of a response: each time whose cell is not nought with its weight, and the late weight. The cells that a sheet is
 /// too short for are nought.
 pub fn write_response<W: Printable>(sheet: &[W], out: &mut Vec<u8>) -> Result<(), AllocError>
-    ensures { OnOk result (out.new.items ≡ out.old.items ++ response_text size text (cells W.Weight.ops sheet.now)) }
+    ensures { OnOk result (out.new.items ≡ out.old.items ++ response_text size text (cells W.ops sheet.now)) }
 {
     write_times(sheet, out)?;
     write_late(late_cell(sheet), out)?;

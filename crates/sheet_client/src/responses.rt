@@ -6,7 +6,7 @@ use analysis::{Pair, SheetRefusal, Weight, add, clear, pass};
 
 // Makes the sheet that of a processor with no work: the unit at the time 0, and nought elsewhere.
 fn begin<W: Weight>(sheet: &mut [W]) -> Result<(), SheetRefusal>
-    ensures { Done ops result sheet.old sheet.new (begun ops) }
+    ensures { Done W.ops result sheet.old sheet.new (begun W.ops) }
 {
     clear(sheet)?;
     sheet[0] = W::unit();
@@ -20,7 +20,7 @@ pub fn respond<W: Weight>(
     gap: u64,
     second: &[Pair],
 ) -> Result<(), SheetRefusal>
-    ensures { Done ops result sheet.old sheet.new (responded ops first.now gap second.now) }
+    ensures { Done W.ops result sheet.old sheet.new (responded W.ops first.now gap second.now) }
 {
     begin(sheet)?;
     add(sheet, first)?;

@@ -5,27 +5,27 @@ use super::weight::Weight;
 
 /// Each cell of a walk's sheet holds the weights of exactly the scenarios that end there.
 pub fn pushforward_stands<W: Weight>()
-    ensures { Pushforward ops }
+    ensures { Pushforward W.ops }
 {}
 
 /// The late weight is that of exactly the scenarios that end after the deadline.
 pub fn late_stands<W: Weight>()
-    ensures { Late ops }
+    ensures { Late W.ops }
 {}
 
 /// Worse tables, over the same moves, keep a worse sheet worse.
 pub fn never_better_stands<W: Weight>()
-    ensures { NeverBetter ops least }
+    ensures { NeverBetter W.ops W.least }
 {}
 
 /// Worse tables never make the late weight of a whole walk smaller.
 pub fn never_later_stands<W: Weight>()
-    ensures { NeverLater ops least }
+    ensures { NeverLater W.ops W.least }
 {}
 
 /// The same, told of the scenarios alone.
 pub fn never_later_told_stands<W: Weight>()
-    ensures { NeverLaterTold ops least }
+    ensures { NeverLaterTold W.ops W.least }
 {}
 
 /// Passing and adding, and adding from a place, are moves of the kind that the theorems ask for.

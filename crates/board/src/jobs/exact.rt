@@ -17,7 +17,7 @@ use analysis::{Pair, Ranking, SheetRefusal, Weight, total};
 /// Gathers the cells after the deadline in cell 256, and leaves those between nought.
 fn gather_late<W: Weight>(sheet: &mut [W], deadline: u8)
     requires { (length sheet.old ≡ 257) × (deadline ≤ 254) }
-    ensures { cells ops sheet.new ≡ gathered_late ops deadline (cells ops sheet.old) }
+    ensures { cells W.ops sheet.new ≡ gathered_late W.ops deadline (cells W.ops sheet.old) }
 {
     let first = deadline as usize + 1;
     let mut late = W::nought();
@@ -37,7 +37,7 @@ impl Entries {
         opening: &[Pair],
     ) -> W
         requires { Stands (places self.now) (job_of job.now) }
-        ensures { result ≡ weight_of_all ops (question_over (R.Ranking.ranks rule.now) (places self.now) opening.now (job_of job.now)) }
+        ensures { result ≡ weight_of_all W.ops (question_over (R.Ranking.ranks rule.now) (places self.now) opening.now (job_of job.now)) }
     {
         let mut all: W = total(opening);
         let mut cursor = self.before_counted(job);
@@ -56,7 +56,7 @@ impl Entries {
         sheet: &mut [W],
     ) -> Result<(), SheetRefusal>
         requires { (Stands (places self.now) (job_of job.now)) × (length sheet.old ≡ 257) }
-        ensures { MatchResult result (λ _. cells ops sheet.new ≡ walked_sheet ops unsettled ops.unit (R.Ranking.ranks rule.now) (places self.now) opening.now (job_of job.now)) (λ _. ⊥) }
+        ensures { MatchResult result (λ _. cells W.ops sheet.new ≡ walked_sheet W.ops unsettled W.ops.unit (R.Ranking.ranks rule.now) (places self.now) opening.now (job_of job.now)) (λ _. ⊥) }
     {
         begin(sheet, W::unit(), opening)?;
         let mut cursor = self.before_counted(job);
@@ -78,7 +78,7 @@ impl Entries {
         sheet: &mut [W],
     ) -> Result<(), SheetRefusal>
         requires { (Stands (places self.now) (job_of job.now)) × ((length sheet.old ≡ 257) × (lawful opening.now ≡ true)) }
-        ensures { MatchResult result (λ _. (old : ℕ → W) (k : ℕ) → k < 257 → cells ops sheet.new k ≡ answer ops (question_over (R.Ranking.ranks rule.now) (places self.now) opening.now (job_of job.now)) old k) (λ _. ⊥) }
+        ensures { MatchResult result (λ _. (old : ℕ → W) (k : ℕ) → k < 257 → cells W.ops sheet.new k ≡ answer W.ops (question_over (R.Ranking.ranks rule.now) (places self.now) opening.now (job_of job.now)) old k) (λ _. ⊥) }
     {
         self.walk_exact(rule, job, opening, sheet)?;
         gather_late(sheet, job.task.deadline);

@@ -21,7 +21,7 @@ const WHOLE: u64 = 1048576;
 /// Lays the opening table out on a sheet of 257 cells, from `x` at the time 0.
 pub(crate) fn begin<W: Weight>(sheet: &mut [W], x: W, opening: &[Pair]) -> Result<(), SheetRefusal>
     requires { length sheet.old ≡ 257 }
-    ensures { MatchResult result (λ _. cells ops sheet.new ≡ added ops 0 (lone ops x) opening.now) (λ _. ⊥) }
+    ensures { MatchResult result (λ _. cells W.ops sheet.new ≡ added W.ops 0 (lone W.ops x) opening.now) (λ _. ⊥) }
 {
     clear(sheet)?;
     sheet[0] = x;
@@ -37,7 +37,7 @@ pub(crate) fn count_in<W: Weight>(
     next: &Job,
 ) -> Result<u32, SheetRefusal>
     requires { (257 ≤ length sheet.old) × (next.now.release < release + 255) }
-    ensures { MatchResult result (λ v. record { last = v; sheet = cells ops sheet.new } ≡ stepped ops release (record { last = last; sheet = cells ops sheet.old }) (job_of next.now)) (λ _. ⊥) }
+    ensures { MatchResult result (λ v. record { last = v; sheet = cells W.ops sheet.new } ≡ stepped W.ops release (record { last = last; sheet = cells W.ops sheet.old }) (job_of next.now)) (λ _. ⊥) }
 {
     let table = next.task.table.pairs();
     if next.release <= release {

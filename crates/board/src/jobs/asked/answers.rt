@@ -13,7 +13,7 @@ use analysis::{Count, Ranking, SheetRefusal, Weight};
 impl Asked {
     /// The weight of all scenarios of the job: the product of the totals of the opening table and of all counted jobs.
     pub fn scenario_weight<W: Weight, R: Ranking>(&self, rule: &R) -> W
-        ensures { result ≡ weight_of_all W.Weight.ops (question_asked (R.Ranking.ranks rule.now) self.now) }
+        ensures { result ≡ weight_of_all W.ops (question_asked (R.Ranking.ranks rule.now) self.now) }
     {
         self.entries
             .scenario_weight(rule, &self.job, self.opening.pairs())
@@ -25,7 +25,7 @@ impl Asked {
         rule: &R,
         sheet: &mut [W],
     ) -> Result<(), SheetRefusal>
-        ensures { Done W.Weight.ops result sheet.old sheet.new (answer W.Weight.ops (question_asked (R.Ranking.ranks rule.now) self.now)) }
+        ensures { Done W.ops result sheet.old sheet.new (answer W.ops (question_asked (R.Ranking.ranks rule.now) self.now)) }
     {
         if sheet.len() < 257 {
             return Err(SheetRefusal::Short);

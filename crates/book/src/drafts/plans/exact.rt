@@ -20,7 +20,7 @@ impl Plan {
         place: u8,
         index: u32,
     ) -> Result<Asked, Refusal>
-        ensures finds { granted_job result ≡ light W.Weight.ops (R.Ranking.ranks rule.now) (plan_book self.now) (granted (plan_book self.now) (asked (plan_book self.now) place index)) }
+        ensures finds { granted_job result ≡ light W.ops (R.Ranking.ranks rule.now) (plan_book self.now) (granted (plan_book self.now) (asked (plan_book self.now) place index)) }
         ensures in_book { IfOk result (AskedIn (plan_book self.now)) }
     {
         let job = self.job(place, index)?;
@@ -41,9 +41,9 @@ impl Plan {
         answer: &mut [W],
         work: &mut [W],
     ) -> Result<(), Refusal>
-        ensures answers { told result ≡ answered (response_answer W.Weight.ops (R.Ranking.ranks rule.now) (plan_book self.now) place index (length answer.old) (length work.old)) }
-        ensures leaves_answer { cells W.Weight.ops answer.new ≡ filled W.Weight.ops (R.Ranking.ranks rule.now) (plan_book self.now) (response_answer W.Weight.ops (R.Ranking.ranks rule.now) (plan_book self.now) place index (length answer.old) (length work.old)) (cells W.Weight.ops answer.old) }
-        ensures leaves_work { cells W.Weight.ops work.new ≡ swept W.Weight.ops (told result) (cells W.Weight.ops work.old) }
+        ensures answers { told result ≡ answered (response_answer W.ops (R.Ranking.ranks rule.now) (plan_book self.now) place index (length answer.old) (length work.old)) }
+        ensures leaves_answer { cells W.ops answer.new ≡ filled W.ops (R.Ranking.ranks rule.now) (plan_book self.now) (response_answer W.ops (R.Ranking.ranks rule.now) (plan_book self.now) place index (length answer.old) (length work.old)) (cells W.ops answer.old) }
+        ensures leaves_work { cells W.ops work.new ≡ swept W.ops (told result) (cells W.ops work.old) }
     {
         if answer.len() < 257 || work.len() < 257 {
             return Err(Refusal::Sheet);
