@@ -7,4 +7,4 @@ pub returns : goal.returns
 returns g c =
     let o = g.W.Weight.ops in
     let old = cells o c.args.sheet.now in
-    (c.in-ok-long-enough.ensures, c.pass-time.ensures ∙ ap (λ n. passed o n old) c.min.ensures ∙ passed_most o c.args.g old)
+    (c.in_ok-long_enough.ensures, c.pass_time.ensures ∙ ap (λ n. passed o n old) c.min.ensures ∙ passed_most o c.args.g old)

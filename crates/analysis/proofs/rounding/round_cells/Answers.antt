@@ -14,9 +14,9 @@ returns c =
     let by = c.args.by in
     let old = cells count_ops c.args.sheet.now in
     let new = lessened by (tailed count_ops old) in
-    let now = c.take-differences.new.sheet in
+    let now = c.take_differences.new.sheet in
     let y = c.difference.result in
-    let before = c.take-differences.ensures ∙ ap (λ f. joint (lessened by f) f 256) c.gather-tails.ensures in
+    let before = c.take_differences.ensures ∙ ap (λ f. joint (lessened by f) f 256) c.gather_tails.ensures in
     let last = get_or_read now 256 c.index-sheet-256.result (omega arith) c.index-sheet-256.is (counted 0)
     ∙ ap (λ f. f 256) before ∙ joint_above new (tailed count_ops old) 256 256 (omega arith) in
     cells_set count_ops now 256 y (omega arith) ∙ ap (λ f. put f 256 y) before
