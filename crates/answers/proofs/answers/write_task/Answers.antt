@@ -6,4 +6,4 @@ use Rattle.answers.proofs.answers.write_task.Goals as goal
 pub returns : goal.returns
 returns c =
     let t = c.args.task.now in
-    two (vec_items c.args.out.now) (field (codes "jobs ") t.jobs) (ending (codes " late ") t.late) _ _ c.in-ok-write-field.ensures c.in-ok-write-ending.ensures
+    two (vec_items c.args.out.now) (field (codes "jobs ") t.jobs) (ending (codes " late ") t.late) _ _ c.in_ok-write_field.ensures c.in_ok-write_ending.ensures

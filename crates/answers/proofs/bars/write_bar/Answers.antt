@@ -5,5 +5,5 @@ use Rattle.answers.proofs.bars.write_bar.Goals as goal
 pub returns : goal.returns
 returns c =
     let before = vec_items c.args.out.now in
-    three before (codes " |") (replicate c.bar-length.result 35) (codes "\n") _ _ _ c.in-ok-write-text.ensures c.in-ok-write-repeated.ensures c.in-ok-write-text-2.ensures
-    ∙ ap (λ n. before ++ (codes " |" ++ (replicate n 35 ++ codes "\n"))) c.bar-length.ensures
+    three before (codes " |") (replicate c.bar_length.result 35) (codes "\n") _ _ _ c.in_ok-write_text.ensures c.in_ok-write_repeated.ensures c.in_ok-write_text-2.ensures
+    ∙ ap (λ n. before ++ (codes " |" ++ (replicate n 35 ++ codes "\n"))) c.bar_length.ensures

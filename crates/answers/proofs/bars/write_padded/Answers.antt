@@ -6,6 +6,6 @@ pub returns : goal.returns
 returns c =
     let before = vec_items c.args.out.now in
     let time = c.args.time in
-    let e : c.saturating-sub-blanks.result ≡ 4 - length (decimal time) = c.saturating-sub-blanks.ensures ∙ ap (λ n. 4 - n) c.digits.ensures in
-    two before (replicate c.saturating-sub-blanks.result 32) (decimal time) _ _ c.in-ok-write-repeated.ensures c.in-ok-write-number.ensures
+    let e : c.saturating_sub-blanks.result ≡ 4 - length (decimal time) = c.saturating_sub-blanks.ensures ∙ ap (λ n. 4 - n) c.digits.ensures in
+    two before (replicate c.saturating_sub-blanks.result 32) (decimal time) _ _ c.in_ok-write_repeated.ensures c.in_ok-write_number.ensures
     ∙ ap (λ n. before ++ (replicate n 32 ++ decimal time)) e

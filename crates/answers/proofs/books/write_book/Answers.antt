@@ -12,6 +12,6 @@ returns g c =
     let n = c.rounds.result in
     let ps = c.pairs.result.now in
     let places = places_text b.places in
-    four before first (field (codes "rounds ") n) (table_text (codes " opening") ps) places _ _ _ _ c.in-ok-write-text.ensures c.in-ok-write-field.ensures c.in-ok-write-table.ensures c.in-ok-write-places.ensures
+    four before first (field (codes "rounds ") n) (table_text (codes " opening") ps) places _ _ _ _ c.in_ok-write_text.ensures c.in_ok-write_field.ensures c.in_ok-write_table.ensures c.in_ok-write_places.ensures
     ∙ (ap (λ k. before ++ (first ++ (field (codes "rounds ") k ++ (table_text (codes " opening") ps ++ places)))) c.rounds.ensures
     ∙ ap (λ qs. before ++ (first ++ (field (codes "rounds ") b.rounds ++ (table_text (codes " opening") qs ++ places)))) (c.pairs.ensures ∙ c.opening-opening.ensures))

@@ -10,7 +10,7 @@ loop-place-init g c = start_in_turn (λ place. place_text place (get_or (g.B.Sho
 pub loop-place-preserved : goal.loop-place-preserved
 loop-place-preserved g c =
     let n = c.loop-place.place in
-    more_in_turn (λ place. place_text place (get_or (g.B.Shown.shown c.args.book.now).places place None)) n _ (vec_items c.args.out.now) _ _ (ap (place_text n) c.task-at.ensures) c.loop-place.invariant c.in-ok-write-place.ensures
+    more_in_turn (λ place. place_text place (get_or (g.B.Shown.shown c.args.book.now).places place None)) n _ (vec_items c.args.out.now) _ _ (ap (place_text n) c.task_at.ensures) c.loop-place.invariant c.in_ok-write_place.ensures
 
 pub returns : goal.returns
 returns g c =

@@ -13,5 +13,5 @@ loop-place-preserved g c =
     let f = cells g.W.Weight.ops c.args.sheet.now in
     let n = c.loop-place.place in
     let m : c.max-most.result ≡ max c.loop-place.most c.size.result = search rules in
-    let s : c.size.result ≡ size (f n) = c.size.ensures ∙ ap size c.cell-at.ensures in
+    let s : c.size.result ≡ size (f n) = c.size.ensures ∙ ap size c.cell_at.ensures in
     m ∙ (ap (λ k. max k c.size.result) c.loop-place.invariant ∙ (ap (λ k. max (largest size f n) k) s ∙ sym (largest_more size f n)))

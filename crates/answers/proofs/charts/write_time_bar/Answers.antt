@@ -10,6 +10,6 @@ returns g c =
     let time = c.args.time in
     let most = c.args.most in
     let n = c.size-size.result in
-    two before (padded time) (bar most n) _ _ c.in-ok-write-padded.ensures c.in-ok-write-bar.ensures
+    two before (padded time) (bar most n) _ _ c.in_ok-write_padded.ensures c.in_ok-write_bar.ensures
     ∙ (ap (λ s. before ++ s) (not_nought n (padded time ++ bar most n) (λ e. omega arith))
     ∙ ap (λ k. before ++ unless_nought k (padded time ++ bar most k)) c.size-size.ensures)

@@ -11,4 +11,4 @@ pub loop-time-preserved : goal.loop-time-preserved
 loop-time-preserved g c =
     let line = time_text g.W.Printable.size g.W.Printable.text in
     let n = c.loop-time.time in
-    more_in_turn (λ time. line time (cells g.W.Weight.ops c.args.sheet.now time)) n _ (vec_items c.args.out.now) _ _ (ap (line n) c.cell-at.ensures) c.loop-time.invariant c.in-ok-write-time.ensures
+    more_in_turn (λ time. line time (cells g.W.Weight.ops c.args.sheet.now time)) n _ (vec_items c.args.out.now) _ _ (ap (line n) c.cell_at.ensures) c.loop-time.invariant c.in_ok-write_time.ensures

@@ -12,5 +12,5 @@ returns c =
     let period = field (codes " period ") t.period in
     let phase = field (codes " phase ") t.phase in
     let deadline = field (codes " deadline ") t.deadline in
-    five before place period phase deadline (table_text (codes " table") _) _ _ _ _ _ c.in-ok-write-number.ensures c.in-ok-write-field.ensures c.in-ok-write-field-2.ensures c.in-ok-write-field-3.ensures c.in-ok-write-table.ensures
+    five before place period phase deadline (table_text (codes " table") _) _ _ _ _ _ c.in_ok-write_number.ensures c.in_ok-write_field.ensures c.in_ok-write_field-2.ensures c.in_ok-write_field-3.ensures c.in_ok-write_table.ensures
     ∙ ap (λ ps. before ++ (place ++ (period ++ (phase ++ (deadline ++ table_text (codes " table") ps))))) c.pairs.ensures

@@ -6,4 +6,4 @@ use Rattle.answers.proofs.tasks.write_pair.Goals as goal
 pub returns : goal.returns
 returns c =
     let p = c.args.pair.now in
-    two (vec_items c.args.out.now) (field (codes " ") p.time) (field (codes ":") p.weight) _ _ c.in-ok-write-field.ensures c.in-ok-write-field-2.ensures
+    two (vec_items c.args.out.now) (field (codes " ") p.time) (field (codes ":") p.weight) _ _ c.in_ok-write_field.ensures c.in_ok-write_field-2.ensures

@@ -5,4 +5,4 @@ use Rattle.texts.proofs.Joined.{three}
 use Rattle.answers.proofs.tasks.write_table.Goals as goal
 
 pub returns : goal.returns
-returns c = three (vec_items c.args.out.now) c.args.label.now (flat_map pair_text c.args.pairs.now) (codes "\n") _ _ _ c.in-ok-write-text.ensures c.in-ok-write-pairs.ensures c.in-ok-write-text-2.ensures
+returns c = three (vec_items c.args.out.now) c.args.label.now (flat_map pair_text c.args.pairs.now) (codes "\n") _ _ _ c.in_ok-write_text.ensures c.in_ok-write_pairs.ensures c.in_ok-write_text-2.ensures

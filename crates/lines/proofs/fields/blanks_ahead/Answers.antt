@@ -4,8 +4,8 @@ use Rattle.std.proofs.lemmas.Bool.Decides.{nat_tests}
 use Rattle.lines.specs.Fields.{blank, blanks_ahead}
 use Rattle.lines.proofs.fields.blanks_ahead.Goals as goal
 
-pub returns-then-not-is-blank : goal.returns-then-not-is-blank
-returns-then-not-is-blank c =
+pub returns-then-not-is_blank : goal.returns-then-not-is_blank
+returns-then-not-is_blank c =
     let xs = c.args.bytes.now in
     let i = c.loop-i.i in
     let lt : i < length xs = omega arith in

@@ -4,8 +4,8 @@ use Rattle.std.proofs.lemmas.Bool.Decides.{nat_tests}
 use Rattle.lines.specs.Fields.{blank, first_blank}
 use Rattle.lines.proofs.fields.first_blank.Goals as goal
 
-pub returns-then-is-blank : goal.returns-then-is-blank
-returns-then-is-blank c =
+pub returns-then-is_blank : goal.returns-then-is_blank
+returns-then-is_blank c =
     let xs = c.args.bytes.now in
     let i = c.loop-i.i in
     let lt : i < length xs = omega arith in

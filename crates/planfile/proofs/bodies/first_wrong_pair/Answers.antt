@@ -6,34 +6,34 @@ use Rattle.planfile.specs.Bodies.{pairs, first_wrong, wrong_in, wrong_pair}
 use Rattle.planfile.proofs.Wrong.{length_pairs, pair_goes, pair_stops, body_goes, body_stops, within_next}
 use Rattle.planfile.proofs.bodies.first_wrong_pair.Goals as goal
 
-pub returns-in-err-count : goal.returns-in-err-count
-returns-in-err-count c =
+pub returns-in_err-count : goal.returns-in_err-count
+returns-in_err-count c =
     let f = c.args.file.now in
     let es = c.args.entries.now in
     let d : Entry = record { place = 0; start = 0; size = 0 } in
     let lt : c.bodies.entry-index < length es = c.bodies-test.true in
     let w = within_next f es c.bodies.entry-index d lt c.bodies.invariant.2 in
-    let k = c.in-err-count.ensures in
+    let k = c.in_err-count.ensures in
     absurd (omega (arith, w.0, k.0))
 
-pub returns-in-err-pair : goal.returns-in-err-pair
-returns-in-err-pair c =
+pub returns-in_err-pair : goal.returns-in_err-pair
+returns-in_err-pair c =
     let f = c.args.file.now in
     let es = c.args.entries.now in
     let d : Entry = record { place = 0; start = 0; size = 0 } in
     let lt : c.bodies.entry-index < length es = c.bodies-test.true in
     let w = within_next f es c.bodies.entry-index d lt c.bodies.invariant.2 in
-    let n = c.in-ok-count.ensures in
-    let k = c.in-err-pair.ensures in
+    let n = c.in_ok-count.ensures in
+    let k = c.in_err-pair.ensures in
     absurd (omega (arith, w.0, n.1, k.0))
 
 pub loop-i-preserved : goal.loop-i-preserved
 loop-i-preserved c =
     let f = c.args.file.now in
     let first = (get_or c.args.entries.now c.bodies.entry-index (record { place = 0; start = 0; size = 0 })).start + 6 in
-    let p = c.in-ok-pair.pair in
-    let k = c.in-ok-pair.ensures in
-    let g = pair_goes f first c.in-ok-count.field-0 c.loop-i.i c.loop-i-test.true c.loop-i.low p k.1 c.if-pair-low.false c.if-pair-eq0.false in
+    let p = c.in_ok-pair.pair in
+    let k = c.in_ok-pair.ensures in
+    let g = pair_goes f first c.in_ok-count.field-0 c.loop-i.i c.loop-i-test.true c.loop-i.low p k.1 c.if-pair-low.false c.if-pair-eq0.false in
     (c.loop-i.invariant.0, g ∙ c.loop-i.invariant.1, omega arith)
 
 -- no pair of the body is wrong
@@ -52,8 +52,8 @@ bodies-preserved c =
     let d : Entry = record { place = 0; start = 0; size = 0 } in
     let lt : j < length es = c.bodies-test.true in
     let w = within_next f es j d lt c.bodies.invariant.2 in
-    let n = c.in-ok-count.ensures in
-    let z = none_wrong f (get_or es j d) c.in-ok-count.field-0 c.loop-i.i c.loop-i.low n.1 c.loop-i-test.false c.loop-i.invariant.1 in
+    let n = c.in_ok-count.ensures in
+    let z = none_wrong f (get_or es j d) c.in_ok-count.field-0 c.loop-i.i c.loop-i.low n.1 c.loop-i-test.false c.loop-i.invariant.1 in
     (c.loop-i.invariant.0, body_goes f es j d lt z ∙ c.bodies.invariant.1, w.1)
 
 pub returns-after-bodies : goal.returns-after-bodies
@@ -72,9 +72,9 @@ returns-then-pair-low c =
     let d : Entry = record { place = 0; start = 0; size = 0 } in
     let first = (get_or es j d).start + 6 in
     let lt : j < length es = c.bodies-test.true in
-    let n = c.in-ok-count.ensures in
-    let p = c.in-ok-pair.pair in
-    let k = c.in-ok-pair.ensures in
-    let g = pair_stops f first c.in-ok-count.field-0 c.loop-i.i c.loop-i-test.true c.loop-i.low p k.1 c.then-pair-low.either in
+    let n = c.in_ok-count.ensures in
+    let p = c.in_ok-pair.pair in
+    let k = c.in_ok-pair.ensures in
+    let g = pair_stops f first c.in_ok-count.field-0 c.loop-i.i c.loop-i-test.true c.loop-i.low p k.1 c.then-pair-low.either in
     let z : wrong_pair f (get_or es j d) ≡ Some (first + 3 * c.loop-i.i) = ap (λ m. first_wrong (pairs f first m) 0 first) (sym n.1) ∙ (sym c.loop-i.invariant.1 ∙ g) in
     sym (body_stops f es j d lt _ z) ∙ c.bodies.invariant.1

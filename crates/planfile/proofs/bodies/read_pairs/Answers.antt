@@ -6,12 +6,12 @@ use Rattle.planfile.proofs.bodies.read_pairs.Goals as goal
 
 pub loop-i-preserved : goal.loop-i-preserved
 loop-i-preserved c =
-    let k = c.in-ok-held.ensures in
+    let k = c.in_ok-held.ensures in
     let i = c.loop-i.i in
     let inv = c.loop-i.invariant in
     let lt : i < length c.loop-i.held = omega arith in (
-      pair_held c.args.file.now c.args.at c.args.count i c.loop-i-test.true c.loop-i.held c.in-ok-held.field-0 lt inv.0 k.1,
-      length-set c.loop-i.held i c.in-ok-held.field-0 ∙ inv.1,
+      pair_held c.args.file.now c.args.at c.args.count i c.loop-i-test.true c.loop-i.held c.in_ok-held.field-0 lt inv.0 k.1,
+      length-set c.loop-i.held i c.in_ok-held.field-0 ∙ inv.1,
       omega arith,
     )
 

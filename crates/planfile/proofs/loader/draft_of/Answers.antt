@@ -8,44 +8,44 @@ use Rattle.planfile.specs.Bodies.{within, bodies_entered}
 use Rattle.planfile.proofs.Entering.{contents_within, loaded_contents, loaded_bodies, loaded_trailing, loaded_whole}
 use Rattle.planfile.proofs.loader.draft_of.Goals as goal
 
-pub returns-in-err-contents : goal.returns-in-err-contents
-returns-in-err-contents c =
-    let p = err_from_is_err_and c.from-residual.result c.from-residual.ensures.1 in
-    let l = loaded_contents c.args.file.now _ c.in-err-contents.ensures in
+pub returns-in_err-contents : goal.returns-in_err-contents
+returns-in_err-contents c =
+    let p = err_from_is_err_and c.from_residual.result c.from_residual.ensures.1 in
+    let l = loaded_contents c.args.file.now _ c.in_err-contents.ensures in
     rw (p.1, p.2) l
 
-pub enter-bodies-requires : goal.enter-bodies-requires
-enter-bodies-requires c =
-    let k = c.in-ok-contents.ensures in
+pub enter_bodies-requires : goal.enter_bodies-requires
+enter_bodies-requires c =
+    let k = c.in_ok-contents.ensures in
     let is = c.entries.ensures ∙ k.1 in
     record {
-      few = omega (arith, ap length c.entries.ensures, length-take c.in-ok-contents.contents.count c.in-ok-contents.contents.entries, k.2);
+      few = omega (arith, ap length c.entries.ensures, length-take c.in_ok-contents.contents.count c.in_ok-contents.contents.entries, k.2);
       fits = ap (within c.args.file.now) is ∙ contents_within c.args.file.now k.0;
     }
 
-pub returns-in-err-enter-bodies : goal.returns-in-err-enter-bodies
-returns-in-err-enter-bodies c =
+pub returns-in_err-enter_bodies : goal.returns-in_err-enter_bodies
+returns-in_err-enter_bodies c =
     let f = c.args.file.now in
-    let k = c.in-ok-contents.ensures in
+    let k = c.in_ok-contents.ensures in
     let is = c.entries.ensures ∙ k.1 in
-    let p = err_from_is_err_and c.from-residual-in-err-enter-bodies.result c.from-residual-in-err-enter-bodies.ensures.1 in
-    let b = c.in-err-enter-bodies.ensures ∙ (ap (bodies_entered f (draft_book c.new-draft.result)) is ∙ ap (λ x. bodies_entered f x (contents f)) c.new-draft.ensures) in
+    let p = err_from_is_err_and c.from_residual-in_err-enter_bodies.result c.from_residual-in_err-enter_bodies.ensures.1 in
+    let b = c.in_err-enter_bodies.ensures ∙ (ap (bodies_entered f (draft_book c.new-draft.result)) is ∙ ap (λ x. bodies_entered f x (contents f)) c.new-draft.ensures) in
     let l = loaded_bodies f _ k.0 b in
     rw (p.1, p.2) l
 
 pub returns-then-contents-file : goal.returns-then-contents-file
 returns-then-contents-file c =
     let f = c.args.file.now in
-    let k = c.in-ok-contents.ensures in
+    let k = c.in_ok-contents.ensures in
     let is = c.entries.ensures ∙ k.1 in
-    let b = c.in-ok-enter-bodies.ensures ∙ (ap (bodies_entered f (draft_book c.new-draft.result)) is ∙ ap (λ x. bodies_entered f x (contents f)) c.new-draft.ensures) in
+    let b = c.in_ok-enter_bodies.ensures ∙ (ap (bodies_entered f (draft_book c.new-draft.result)) is ∙ ap (λ x. bodies_entered f x (contents f)) c.new-draft.ensures) in
     let l = loaded_trailing f _ k.0 b (subst (λ x. x < length f) k.3 c.if-contents-file.true) in
     l ∙ (ap (λ x. Err (file_fault 23 x)) (sym k.3) ∙ ap (λ e. Err (told e)) (sym c.file.ensures))
 
 pub returns : goal.returns
 returns c =
     let f = c.args.file.now in
-    let k = c.in-ok-contents.ensures in
+    let k = c.in_ok-contents.ensures in
     let is = c.entries.ensures ∙ k.1 in
-    let b = c.in-ok-enter-bodies.ensures ∙ (ap (bodies_entered f (draft_book c.new-draft.result)) is ∙ ap (λ x. bodies_entered f x (contents f)) c.new-draft.ensures) in
+    let b = c.in_ok-enter_bodies.ensures ∙ (ap (bodies_entered f (draft_book c.new-draft.result)) is ∙ ap (λ x. bodies_entered f x (contents f)) c.new-draft.ensures) in
     loaded_whole f _ k.0 b (subst (λ x. length f ≤ x) k.3 c.if-contents-file.false)

@@ -7,9 +7,9 @@ use Rattle.planfile.specs.Bodies.{body_refusal}
 use Rattle.planfile.proofs.Entering.{within_at, body_read, body_taken, body_refused, numbered}
 use Rattle.planfile.proofs.loader.enter_body.Goals as goal
 
-pub returns-in-err-body : goal.returns-in-err-body
-returns-in-err-body c =
-    let k = c.in-err-body.ensures in
+pub returns-in_err-body : goal.returns-in_err-body
+returns-in_err-body c =
+    let k = c.in_err-body.ensures in
     let w = within_at c.args.file.now c.args.entries.now c.args.i c.requires.listed c.requires.fits in
     absurd (omega (arith, k.0))
 
@@ -18,20 +18,20 @@ returns-in-Ok c =
     let f = c.args.file.now in
     let b = draft_book c.args.draft.now in
     let e = get_or c.args.entries.now c.args.i blank in
-    let body = c.in-ok-body.body in
-    let k = c.in-ok-body.ensures in
+    let body = c.in_ok-body.body in
+    let k = c.in_ok-body.ensures in
     let x = body_read f b e body.period body.phase body.deadline c.table.result.now k.0 k.1 k.2 (c.table.ensures ∙ k.4) in
     body_taken f b e _ (sym x.answers ∙ sym c.in-Ok.ensures.answers) (c.in-Ok.ensures.leaves ∙ x.leaves)
 
-pub returns-in-ok-offset : goal.returns-in-ok-offset
-returns-in-ok-offset c =
+pub returns-in_ok-offset : goal.returns-in_ok-offset
+returns-in_ok-offset c =
     let f = c.args.file.now in
     let b = draft_book c.args.draft.now in
     let e = get_or c.args.entries.now c.args.i blank in
-    let body = c.in-ok-body.body in
-    let k = c.in-ok-body.ensures in
+    let body = c.in_ok-body.body in
+    let k = c.in_ok-body.ensures in
     let r = c.in-Err.refusal in
     let x = body_read f b e body.period body.phase body.deadline c.table.result.now k.0 k.1 k.2 (c.table.ensures ∙ k.4) in
     let n : number r ≡ body_refusal f b e = c.in-Err.ensures.answers ∙ x.answers in
-    let t : told c.at.result ≡ book_fault (number r) c.in-ok-offset.offset = ap told c.at.ensures ∙ ap (λ y. told (record { cause = y.cause; offset = c.in-ok-offset.offset })) c.from.ensures in
-    ap Err (t ∙ ap (book_fault (number r)) c.in-ok-offset.ensures) ∙ body_refused f b e (number r) (numbered r).0 n
+    let t : told c.at.result ≡ book_fault (number r) c.in_ok-offset.offset = ap told c.at.ensures ∙ ap (λ y. told (record { cause = y.cause; offset = c.in_ok-offset.offset })) c.from.ensures in
+    ap Err (t ∙ ap (book_fault (number r)) c.in_ok-offset.ensures) ∙ body_refused f b e (number r) (numbered r).0 n

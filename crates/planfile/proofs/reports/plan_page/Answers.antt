@@ -15,6 +15,6 @@ pub loop-place-preserved : goal.loop-place-preserved
 loop-place-preserved c =
     let b = plan_book c.args.plan.now in
     let i = c.loop-place.place in (
-      c.write-place.ensures.writes ∙ (ap (λ s. s ++ place_line b i (get_or b.places i None)) c.loop-place.invariant.0 ∙ sym (lines_more b i)),
-      omega (arith, c.write-place.ensures.short, c.loop-place.invariant.1),
+      c.write_place.ensures.writes ∙ (ap (λ s. s ++ place_line b i (get_or b.places i None)) c.loop-place.invariant.0 ∙ sym (lines_more b i)),
+      omega (arith, c.write_place.ensures.short, c.loop-place.invariant.1),
     )

@@ -31,6 +31,6 @@ returns-in-Err c =
     let k = c.in-Err.ensures in
     let is = place_line_is b p (get_or b.places p None) (entry_of c.in-Some.field-0) (Err (number r)) c.in-Some.ensures k.answers in
     record {
-      writes = c.refused-line.ensures ∙ (ap (λ m. before ++ refused_line p m) c.number.ensures ∙ ap (λ s. before ++ s) is);
-      short = after _ before (refused_line p n) (length before) 15 c.refused-line.ensures (omega arith) (refused_short p n c.requires.listed (omega arith));
+      writes = c.refused_line.ensures ∙ (ap (λ m. before ++ refused_line p m) c.number.ensures ∙ ap (λ s. before ++ s) is);
+      short = after _ before (refused_line p n) (length before) 15 c.refused_line.ensures (omega arith) (refused_short p n c.requires.listed (omega arith));
     }

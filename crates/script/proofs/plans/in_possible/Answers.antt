@@ -8,5 +8,5 @@ use Rattle.script.proofs.plans.in_possible.Goals as goal
 
 pub returns : goal.returns
 returns c =
-    c.in-ok-respond.ensures
+    c.in_ok-respond.ensures
     ∙ blank_text c.args.chart possible_ops possible_size possible_text (rule_rank c.args.rule.now) (plan_book c.args.plan.now) c.args.place c.args.index (vec_items c.args.out.now) c.nought-answer.result c.nought-answer.ensures

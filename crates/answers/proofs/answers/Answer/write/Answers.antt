@@ -7,4 +7,4 @@ pub returns-in-ReopenFirst : goal.returns-in-ReopenFirst
 returns-in-ReopenFirst c = rw c.in-ReopenFirst.is c.write-text_in-ReopenFirst.ensures
 
 pub returns-in-Unreadable : goal.returns-in-Unreadable
-returns-in-Unreadable c = rw c.in-Unreadable.is c.write-ending-in-Unreadable.ensures
+returns-in-Unreadable c = rw c.in-Unreadable.is c.write_ending-in-Unreadable.ensures

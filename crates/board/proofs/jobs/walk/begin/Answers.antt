@@ -7,5 +7,5 @@ pub returns : goal.returns
 returns g c =
     let o = g.W.Weight.ops in
     let long : length c.clear.new.sheet ≡ 257 = omega arith in
-    c.in-ok-add.ensures.1
-    ∙ ap (λ f. added o 0 f c.args.opening.now) (lone_laid o c.args.sheet.now c.clear.new.sheet c.args.x c.requires long c.in-ok-clear.ensures.1)
+    c.in_ok-add.ensures.1
+    ∙ ap (λ f. added o 0 f c.args.opening.now) (lone_laid o c.args.sheet.now c.clear.new.sheet c.args.x c.requires long c.in_ok-clear.ensures.1)

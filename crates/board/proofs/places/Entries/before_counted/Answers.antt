@@ -8,10 +8,10 @@ use Rattle.board.proofs.places.Entries.before_counted.Goals as goal
 pub due-requires : goal.due-requires
 due-requires c = c.requires.soon
 
-pub next-release-requires : goal.next-release-requires
-next-release-requires c = (omega arith, omega (arith, c.requires.soon))
+pub next_release-requires : goal.next_release-requires
+next_release-requires c = (omega arith, omega (arith, c.requires.soon))
 
 pub returns : goal.returns
 returns c =
     let ps = places c.args.self.now in
-    λ rule. left_first rule ps (job_of c.args.job.now) c.next-release.result (entries_long c.args.self.now) c.requires (subst (λ d. Skips ps 0 d c.next-release.result) c.due.ensures c.next-release.ensures)
+    λ rule. left_first rule ps (job_of c.args.job.now) c.next_release.result (entries_long c.args.self.now) c.requires (subst (λ d. Skips ps 0 d c.next_release.result) c.due.ensures c.next_release.ensures)

@@ -7,7 +7,7 @@ use Rattle.board.proofs.At.{ranges}
 use Rattle.board.proofs.Steps.{bare}
 use Rattle.board.proofs.Searches.{this_divides, rest_decides, hyper_none, hyper_is, Holds, multiple}
 use Rattle.board.proofs.places.Entries.hyperperiod.Goals as goal
-use Rattle.board.proofs.places.Entries.hyperperiod.Goals.{in-Some+in-Some-common, in-default}
+use Rattle.board.proofs.places.Entries.hyperperiod.Goals.{in-Some+in-Some-common, in_default}
 
 pub common-requires : goal.common-requires
 common-requires c =
@@ -40,12 +40,12 @@ loop-i-preserved c =
             (λ k d. f.4 k (inv.2 k d) (this_divides ps i c.loop-i.h e lt at inv.2 inv.3 k d)),
             (λ k z. rest_decides ps i c.loop-i.h e lt at inv.3 k (multiple k m c.loop-i.h z f.2) (multiple k m e.period z f.3)),
           )
-      | in-default w ↦
+      | in_default w ↦
           subst P (sym w.h-is) (
             inv.0,
             inv.1,
             inv.2,
-            (λ k z. sym (bare ps i k lt w.in-default.ensures).divided_is ∙ inv.3 k z),
+            (λ k z. sym (bare ps i k lt w.in_default.ensures).divided_is ∙ inv.3 k z),
           )
     ]
 

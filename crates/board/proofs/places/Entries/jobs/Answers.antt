@@ -4,7 +4,7 @@ use Rattle.board.specs.Places.{places, entry_of}
 use Rattle.board.specs.Model.{jobs}
 use Rattle.board.proofs.Steps.{held, bare}
 use Rattle.board.proofs.places.Entries.jobs.Goals as goal
-use Rattle.board.proofs.places.Entries.jobs.Goals.{in-Some, in-default}
+use Rattle.board.proofs.places.Entries.jobs.Goals.{in-Some, in_default}
 
 pub loop-i-preserved : goal.loop-i-preserved
 loop-i-preserved c =
@@ -15,8 +15,8 @@ loop-i-preserved c =
           let k = held ps c.loop-i.i c.args.h (entry_of w.in-Some.task) lt w.in-Some.ensures in
           let d : c.args.h / w.in-Some.task.period ≤ c.args.h = div-le_self _ _ in
           (omega (arith, w.n-is, k.jobs_is), omega (arith, w.n-is))
-      | in-default w ↦
-          let k = bare ps c.loop-i.i c.args.h lt w.in-default.ensures in
+      | in_default w ↦
+          let k = bare ps c.loop-i.i c.args.h lt w.in_default.ensures in
           (omega (arith, w.n-is, k.jobs_is), omega (arith, w.n-is))
     ]
 

@@ -12,7 +12,7 @@ returns g c =
     let long : length xs ≡ 257 = omega (arith, c.requires.1) in
     let low : i < 257 = omega arith in
     let read = get_or_read xs i c.index-sheet-job.result (omega arith) c.index-sheet-job.is (counted 0) in
-    let at = ap (λ f. f i) c.in-ok-tails.ensures.1 ∙ tailed_at count_ops (cells count_ops c.walk-rounded.new.sheet) i low in (
-      c.value-late.ensures ∙ ap (λ x. x.value) (read ∙ at ∙ ap (λ f. tail count_ops f i) c.in-ok-walk-rounded.ensures),
-      λ k. ap (λ f. f k) c.in-ok-clear.ensures.1 ∙ cleared_nought count_ops xs k long,
+    let at = ap (λ f. f i) c.in_ok-tails.ensures.1 ∙ tailed_at count_ops (cells count_ops c.walk_rounded.new.sheet) i low in (
+      c.value-late.ensures ∙ ap (λ x. x.value) (read ∙ at ∙ ap (λ f. tail count_ops f i) c.in_ok-walk_rounded.ensures),
+      λ k. ap (λ f. f k) c.in_ok-clear.ensures.1 ∙ cleared_nought count_ops xs k long,
     )

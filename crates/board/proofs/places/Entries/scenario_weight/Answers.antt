@@ -15,7 +15,7 @@ loop-next-preserved g c =
     let all = c.loop-next.all in
     let pairs = table_pairs c.in-Some.next.task.table in
     let rest : List Job → g.row.W.Denot = λ ks. product_of o (map (λ k. drawn_from k.entry.pairs) ks) in
-    let ahead = rest (left rule (places c.args.self.now) (job_of c.args.job.now) c.next-counted.new.cursor) in
+    let ahead = rest (left rule (places c.args.self.now) (job_of c.args.job.now) c.next_counted.new.cursor) in
     let more = c.product-all.ensures ∙ ap (o.product all) (c.total.ensures ∙ ap (total o) c.pairs.ensures) in
     ap (λ v. o.product v ahead) more
     ∙ product_more g.W.Weight.laws all pairs ahead
@@ -29,6 +29,6 @@ returns g c =
     let all = c.loop-next.all in
     let rest : List Job → g.row.W.Denot = λ ks. product_of o (map (λ k. drawn_from k.entry.pairs) ks) in
     sym (product_none g.W.Weight.laws all)
-    ∙ ap (λ ks. o.product all (rest ks)) (sym c.in-default.ensures.finds)
+    ∙ ap (λ ks. o.product all (rest ks)) (sym c.in_default.ensures.finds)
     ∙ c.loop-next.invariant
     ∙ weight_is g.W.Weight.laws rule (places c.args.self.now) c.args.opening.now (job_of c.args.job.now)

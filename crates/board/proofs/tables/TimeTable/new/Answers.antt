@@ -25,12 +25,12 @@ copied xs held i h k e =
     let n : i ≡ length xs = omega arith in
     simp (sym n) (e ∙ take_all i xs k)
 
-pub invariant-of-result : goal.invariant-of-result
-invariant-of-result c =
+pub invariant_of-result : goal.invariant_of-result
+invariant_of-result c =
     let P : List Pair → Type 0 = λ ps. lawful ps ≡ true in
     let short : length c.args.pairs.now ≤ 16 = grind (arith, nat_tests) in
     let e = copied _ _ c.loop-i.i c.loop-i.auto.i-end c.loop-i-test.false c.loop-i.invariant.0 in
-    (short, (subst P (sym e) (sym c.if-not-is-lawful.ensures), tt))
+    (short, (subst P (sym e) (sym c.if-not-is_lawful.ensures), tt))
 
 pub returns : goal.returns
-returns c = (sym c.if-not-is-lawful.ensures, copied _ _ c.loop-i.i c.loop-i.auto.i-end c.loop-i-test.false c.loop-i.invariant.0)
+returns c = (sym c.if-not-is_lawful.ensures, copied _ _ c.loop-i.i c.loop-i.auto.i-end c.loop-i-test.false c.loop-i.invariant.0)

@@ -6,12 +6,12 @@ use Rattle.planfile.specs.Contents.{entry, placed, sized, entry_number}
 use Rattle.planfile.proofs.Listed.{number_unplaced, number_unsized, number_right}
 use Rattle.planfile.proofs.contents.Entry.checked.Goals as goal
 
-pub returns-then-not-is-placed : goal.returns-then-not-is-placed
-returns-then-not-is-placed c =
+pub returns-then-not-is_placed : goal.returns-then-not-is_placed
+returns-then-not-is_placed c =
     let f = c.args.file.now in
     let before = c.args.before.now in
     let P : Entry → Type 0 = λ e. placed f c.args.start before e ≡ false in
-    let p : placed f c.args.start before (entry f c.args.at) ≡ false = subst P c.in-ok-entry.ensures.1 (sym c.if-not-is-placed.ensures) in
+    let p : placed f c.args.start before (entry f c.args.at) ≡ false = subst P c.in_ok-entry.ensures.1 (sym c.if-not-is_placed.ensures) in
     let n = number_unplaced f c.args.start before (entry f c.args.at) p in
     (ap told c.file-wrong.ensures ∙ ap (λ k. file_fault k c.args.at) (sym n), omega arith)
 
@@ -19,10 +19,10 @@ pub returns-then-entry-lt6 : goal.returns-then-entry-lt6
 returns-then-entry-lt6 c =
     let f = c.args.file.now in
     let before = c.args.before.now in
-    let e = c.in-ok-entry.entry in
-    let is : e ≡ entry f c.args.at = c.in-ok-entry.ensures.1 in
+    let e = c.in_ok-entry.entry in
+    let is : e ≡ entry f c.args.at = c.in_ok-entry.ensures.1 in
     let P : Entry → Type 0 = λ x. entry_number f c.args.start before x ≡ 22 in
-    let p : placed f c.args.start before e ≡ true = sym c.if-not-is-placed.ensures in
+    let p : placed f c.args.start before e ≡ true = sym c.if-not-is_placed.ensures in
     let q : sized f e ≡ false = grind (arith, nat_tests) in
     let n = subst P is (number_unsized f c.args.start before e p q) in
     (ap told c.file-short.ensures ∙ ap (λ k. file_fault k c.args.at) (sym n), omega arith)
@@ -31,11 +31,11 @@ pub returns-then-entry-pairs : goal.returns-then-entry-pairs
 returns-then-entry-pairs c =
     let f = c.args.file.now in
     let before = c.args.before.now in
-    let e = c.in-ok-entry.entry in
-    let is : e ≡ entry f c.args.at = c.in-ok-entry.ensures.1 in
+    let e = c.in_ok-entry.entry in
+    let is : e ≡ entry f c.args.at = c.in_ok-entry.ensures.1 in
     let P : Entry → Type 0 = λ x. entry_number f c.args.start before x ≡ 22 in
-    let p : placed f c.args.start before e ≡ true = sym c.if-not-is-placed.ensures in
-    let k = c.in-ok-pairs.ensures.1 in
+    let p : placed f c.args.start before e ≡ true = sym c.if-not-is_placed.ensures in
+    let k = c.in_ok-pairs.ensures.1 in
     let q : sized f e ≡ false = grind (arith, nat_tests) in
     let n = subst P is (number_unsized f c.args.start before e p q) in
     (ap told c.file-short.ensures ∙ ap (λ k. file_fault k c.args.at) (sym n), omega arith)
@@ -44,10 +44,10 @@ pub returns : goal.returns
 returns c =
     let f = c.args.file.now in
     let before = c.args.before.now in
-    let e = c.in-ok-entry.entry in
-    let is : e ≡ entry f c.args.at = c.in-ok-entry.ensures.1 in
+    let e = c.in_ok-entry.entry in
+    let is : e ≡ entry f c.args.at = c.in_ok-entry.ensures.1 in
     let P : Entry → Type 0 = λ x. entry_number f c.args.start before x ≡ 0 in
-    let p : placed f c.args.start before e ≡ true = sym c.if-not-is-placed.ensures in
-    let k = c.in-ok-pairs.ensures.1 in
+    let p : placed f c.args.start before e ≡ true = sym c.if-not-is_placed.ensures in
+    let k = c.in_ok-pairs.ensures.1 in
     let q : sized f e ≡ true = grind (arith, nat_tests) in
     (is, subst P is (number_right f c.args.start before e p q))

@@ -3,8 +3,8 @@ use Rattle.std.proofs.lemmas.List.{length-set, length-take-le, take_more_set}
 use Rattle.planfile.proofs.Written.{clear_more}
 use Rattle.planfile.proofs.page.Page.push.Goals as goal
 
-pub invariant-of-self : goal.invariant-of-self
-invariant-of-self c =
+pub invariant_of-self : goal.invariant_of-self
+invariant_of-self c =
     let p = c.args.self.now in
     let l = length-take-le p.used p.bytes (omega arith) in (
       length-set p.bytes p.used c.args.byte ∙ p.long,

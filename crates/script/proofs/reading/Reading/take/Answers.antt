@@ -8,7 +8,7 @@ loop-byte-preserved c =
     let before = progress c.loop-byte.self c.loop-byte.book (vec_items c.loop-byte.out) in
     let bytes = c.args.bytes.now in
     let i = c.loop-byte.byte-index in
-    ap (λ p. taken p (drop (i + 1) bytes)) c.in-ok-book.ensures ∙ sym (at_drop_more (taken before) bytes i 0 (omega arith)) ∙ c.loop-byte.invariant
+    ap (λ p. taken p (drop (i + 1) bytes)) c.in_ok-book.ensures ∙ sym (at_drop_more (taken before) bytes i 0 (omega arith)) ∙ c.loop-byte.invariant
 
 pub returns : goal.returns
 returns c =

@@ -29,7 +29,7 @@ returns g c =
       omega arith,
       same_cells (λ k.
           ⊎_elim
-          (λ (h : k < 257). part_below o old new long k h ∙ c.in-ok-exact.ensures (cells o old) k h ∙ ap (λ ps. answer o (question_over rule (places a.entries) ps (job_of a.job)) (cells o old) k) c.pairs-opening.ensures)
+          (λ (h : k < 257). part_below o old new long k h ∙ c.in_ok-exact.ensures (cells o old) k h ∙ ap (λ ps. answer o (question_over rule (places a.entries) ps (job_of a.job)) (cells o old) k) c.pairs-opening.ensures)
           (λ (h : 257 ≤ k). part_above o old new long k h ∙ sym (answer_past o (question_asked rule a) (cells o old) k small h))
           (cases_lt k 257)),
     )

@@ -10,8 +10,8 @@ use Rattle.board.proofs.Standing.{asked_stands}
 use Rattle.board.proofs.Walked.{late_same}
 use Rattle.board.proofs.jobs.asked.Asked.rounded_late.Goals as goal
 
-pub rounded-late-requires : goal.rounded-late-requires
-rounded-late-requires g c = (asked_stands c.args.self.now, search rules)
+pub rounded_late-requires : goal.rounded_late-requires
+rounded_late-requires g c = (asked_stands c.args.self.now, search rules)
 
 pub returns : goal.returns
 returns g c =
@@ -20,11 +20,11 @@ returns g c =
     let ps = places a.entries in
     let opening = table_pairs a.opening in
     let j = job_of a.job in
-    let told = c.in-ok-late.ensures in
+    let told = c.in_ok-late.ensures in
     let was = told.0 ∙ ap (λ ts. late_over rule ps ts j) c.pairs-opening.ensures in
     let P : ℕ → Type 0 = λ n. n ≤ 1048576 in
-    let long : length c.rounded-late.new.sheet ≡ 257 = search rules in
+    let long : length c.rounded_late.new.sheet ≡ 257 = search rules in
     record {
       is = (was ∙ late_same rule ps opening j, subst P (sym was) (late_bound rule ps opening j));
-      leaves = (omega arith, swept_part count_ops c.args.sheet.now c.rounded-late.new.sheet long told.1);
+      leaves = (omega arith, swept_part count_ops c.args.sheet.now c.rounded_late.new.sheet long told.1);
     }

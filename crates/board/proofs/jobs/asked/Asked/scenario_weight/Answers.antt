@@ -1,5 +1,5 @@
 use Rattle.board.proofs.Standing.{asked_stands}
 use Rattle.board.proofs.jobs.asked.Asked.scenario_weight.Goals as goal
 
-pub scenario-weight-requires : goal.scenario-weight-requires
-scenario-weight-requires g c = asked_stands c.args.self.now
+pub scenario_weight-requires : goal.scenario_weight-requires
+scenario_weight-requires g c = asked_stands c.args.self.now

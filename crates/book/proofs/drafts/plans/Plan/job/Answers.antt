@@ -8,26 +8,26 @@ use Rattle.book.proofs.Asked.{granted_in, stands_at}
 use Rattle.book.proofs.Plans.{given_entry, plan_long, plan_ranges}
 use Rattle.book.proofs.drafts.plans.Plan.job.Goals as goal
 
-pub invariant-of-result : goal.invariant-of-result
-invariant-of-result c =
+pub invariant_of-result : goal.invariant_of-result
+invariant_of-result c =
     let p = c.args.self.now in
-    let e = entry_of c.in-ok-task.task in
+    let e = entry_of c.in_ok-task.task in
     let i = c.args.index in
     let place = c.args.place in
-    let is = given_entry _ _ _ _ c.entry.ensures c.ok-or.ensures.ok-part c.in-ok-task.was in
-    let soon : due (job_at place e i) ≤ 32768 = omega (arith, c.window-end.ensures.bound, c.release-of-release.ensures) in
-    (stands_at (plan_book p).places place i c.release-of-release.result e (plan_long p) is c.release-of-release.ensures soon (plan_ranges p place e is).deadline_low, tt)
+    let is = given_entry _ _ _ _ c.entry.ensures c.ok_or.ensures.ok-part c.in_ok-task.was in
+    let soon : due (job_at place e i) ≤ 32768 = omega (arith, c.window-end.ensures.bound, c.release_of-release.ensures) in
+    (stands_at (plan_book p).places place i c.release_of-release.result e (plan_long p) is c.release_of-release.ensures soon (plan_ranges p place e is).deadline_low, tt)
 
 pub returns : goal.returns
 returns c =
     let b = plan_book c.args.self.now in
-    let e = entry_of c.in-ok-task.task in
+    let e = entry_of c.in_ok-task.task in
     let i = c.args.index in
     let place = c.args.place in
-    let is = given_entry _ _ _ _ c.entry.ensures c.ok-or.ensures.ok-part c.in-ok-task.was in
-    let early : release_of e i < window b = omega (arith, c.window-end.ensures.is, c.release-of-release.ensures) in
-    let soon : due (job_at place e i) ≤ window b = omega (arith, c.window-end.ensures.is, c.release-of-release.ensures) in
+    let is = given_entry _ _ _ _ c.entry.ensures c.ok_or.ensures.ok-part c.in_ok-task.was in
+    let early : release_of e i < window b = omega (arith, c.window-end.ensures.is, c.release_of-release.ensures) in
+    let soon : due (job_at place e i) ≤ window b = omega (arith, c.window-end.ensures.is, c.release_of-release.ensures) in
     record {
-      finds = ap (λ r. Ok (record { place = place; entry = e; release = r })) c.release-of-release.ensures ∙ granted_in b place i e is early soon;
-      in-book = λ rule. refl;
+      finds = ap (λ r. Ok (record { place = place; entry = e; release = r })) c.release_of-release.ensures ∙ granted_in b place i e is early soon;
+      in_book = λ rule. refl;
     }

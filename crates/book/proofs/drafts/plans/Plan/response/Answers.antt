@@ -12,12 +12,12 @@ returns g c =
     let rule = g.R.Ranking.ranks c.args.rule.now in
     let b = plan_book c.args.self.now in
     let old = cells o c.args.answer.now in
-    let f = c.in-ok-job.ensures in
+    let f = c.in_ok-job.ensures in
     let la : 257 ≤ length c.args.answer.now = omega arith in
     let lw : 257 ≤ length c.args.work.now = omega arith in
     let is = f.finds ∙ long_told (length c.args.answer.now) (length c.args.work.now) _ la lw in
     record {
       answers = ap answered is;
-      leaves-answer = c.in-ok-exact.ensures.1 ∙ ap (λ q. answer o q old) (f.in-book rule) ∙ ap (λ r. filled o rule b r old) is;
-      leaves-work = c.in-ok-clear.ensures.1;
+      leaves-answer = c.in_ok-exact.ensures.1 ∙ ap (λ q. answer o q old) (f.in_book rule) ∙ ap (λ r. filled o rule b r old) is;
+      leaves-work = c.in_ok-clear.ensures.1;
     }

@@ -8,14 +8,14 @@ use Rattle.book.proofs.drafts.plans.Plan.rounded.Goals as goal
 pub returns : goal.returns
 returns g c =
     let rule = g.R.Ranking.ranks c.args.rule.now in
-    let a = c.in-ok-job.job in
-    let f = c.in-ok-job.ensures in
-    let told = c.in-ok-late.ensures in
+    let a = c.in_ok-job.job in
+    let f = c.in_ok-job.ensures in
+    let told = c.in_ok-late.ensures in
     let la : 257 ≤ length c.args.answer.now = omega arith in
     let lw : 257 ≤ length c.args.work.now = omega arith in
     record {
-      answers = late_told rule (plan_book c.args.self.now) _ (job_of a.job) (question_asked rule a) f.finds (f.in-book rule) (length c.args.answer.now) (length c.args.work.now) c.in-ok-late.late told.is.0 la lw;
+      answers = late_told rule (plan_book c.args.self.now) _ (job_of a.job) (question_asked rule a) f.finds (f.in_book rule) (length c.args.answer.now) (length c.args.work.now) c.in_ok-late.late told.is.0 la lw;
       leaves-answer = told.leaves.1;
-      leaves-work = c.in-ok-clear.ensures.1;
+      leaves-work = c.in_ok-clear.ensures.1;
       small = told.is.1;
     }

@@ -9,14 +9,14 @@ use Rattle.book.proofs.Plans.{late_more, ready_low, ready_stands}
 use Rattle.board.proofs.Sheets.{cleared_twice}
 use Rattle.book.proofs.drafts.plans.Plan.sum_late.Goals as goal
 
-pub overflow-cast-asked : goal.overflow-cast-asked
-overflow-cast-asked g c =
-    let low = ready_low c.args.self.now c.args.batch.now c.loop-i.i c.release-of.result c.requires.0 c.loop-i-test.true c.release-of.ensures in
+pub overflow_cast-asked : goal.overflow_cast-asked
+overflow_cast-asked g c =
+    let low = ready_low c.args.self.now c.args.batch.now c.loop-i.i c.release_of.result c.requires.0 c.loop-i-test.true c.release_of.ensures in
     omega (arith, low)
 
-pub invariant-of-asked : goal.invariant-of-asked
-invariant-of-asked g c =
-    (ready_stands c.args.self.now c.args.batch.now c.loop-i.i c.release-of.result c.requires.0 c.loop-i-test.true c.release-of.ensures, tt)
+pub invariant_of-asked : goal.invariant_of-asked
+invariant_of-asked g c =
+    (ready_stands c.args.self.now c.args.batch.now c.loop-i.i c.release_of.result c.requires.0 c.loop-i-test.true c.release_of.ensures, tt)
 
 pub loop-i-preserved : goal.loop-i-preserved
 unfolding rounded_late
@@ -26,10 +26,10 @@ loop-i-preserved g c =
     let x = c.args.batch.now in
     let e = entry_of x.task in
     let i = c.loop-i.i in
-    let told = c.in-ok-late.ensures in
+    let told = c.in_ok-late.ensures in
     let inv = c.loop-i.invariant in
-    let one = told.is.0 ∙ ap (λ r. rounded_late rule b (record { place = x.place; entry = e; release = r })) c.release-of.ensures in (
-      ap (λ n. n + c.in-ok-late.field-0) inv.0 ∙ ap (λ n. late_sum rule b x.place e x.first i + n) one ∙ sym (late_more rule b x.place e x.first i),
+    let one = told.is.0 ∙ ap (λ r. rounded_late rule b (record { place = x.place; entry = e; release = r })) c.release_of.ensures in (
+      ap (λ n. n + c.in_ok-late.field-0) inv.0 ∙ ap (λ n. late_sum rule b x.place e x.first i + n) one ∙ sym (late_more rule b x.place e x.first i),
       omega (arith, inv.1, told.is.1),
-      told.leaves.1 ∙ ap (cleared count_ops) (inv.2 ∙ c.in-ok-clear.ensures.1) ∙ cleared_twice count_ops (cells count_ops c.args.sheet.now) ∙ sym c.in-ok-clear.ensures.1,
+      told.leaves.1 ∙ ap (cleared count_ops) (inv.2 ∙ c.in_ok-clear.ensures.1) ∙ cleared_twice count_ops (cells count_ops c.args.sheet.now) ∙ sym c.in_ok-clear.ensures.1,
     )
