@@ -8,13 +8,13 @@ loop-pair-preserved c = (
   omega arith,
   total_on
       c.loop-pair.total
-      c.saturating-add-total.result
+      c.saturating_add-total.result
       c.loop-pair.pair-index
       c.args.pairs.now
       (total c.args.pairs.now)
       4294967295
       (omega arith)
-      c.saturating-add-total.ensures
+      c.saturating_add-total.ensures
       c.loop-pair.invariant.1,
 )
 

@@ -9,4 +9,4 @@ front pairs copied rest same = rw same (take-append_seam pairs rest)
 
 pub returns : goal.returns
 returns c =
-    (sym c.if-not-lawful.ensures, (refl, front _ _ _ c.copy-from-slice.ensures.after))
+    (sym c.if-not-lawful.ensures, (refl, front _ _ _ c.copy_from_slice.ensures.after))
