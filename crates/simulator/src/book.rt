@@ -1,5 +1,5 @@
 //! The book: its tasks, its opening table and its rounds, and the edits of them.
-ghost use Rattle.std.specs.Prelude.{◌≡◌, ◌<◌, ◌≤◌, set, Some, MatchResult, OnSome, slice_set};
+ghost use Rattle.std.specs.Prelude.{◌≡◌, ◌<◌, ◌≤◌, Some, MatchResult, OnSome, slice_set};
 ghost use Rattle.simulator.specs.Tables.{Holds};
 ghost use Rattle.simulator.specs.Edits.{empty, table_number, task_number, early_number, Made, Entered, withdraw_number, withdrawn, rounds_number, with_rounds};
 

@@ -1,4 +1,6 @@
 //! A simulator of a board's plan: it draws every scenario and runs the processor tick by tick, in whole numbers.
+#![tactic(auto)]
+
 mod answers;
 mod book;
 mod jobs;
