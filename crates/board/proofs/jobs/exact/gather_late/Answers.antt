@@ -18,7 +18,7 @@ loop-x-preserved g c =
     let here : x < length xs = omega (arith, c.requires.0) in
     let read = get_or_read xs x c.index-sheet-x.result here c.index-sheet-x.is o.nought ∙ inv.4 x (omega arith) in (
       omega (arith, inv.0),
-      c.sum_late.ensures ∙ ap (λ v. o.sum v c.index-sheet-x.result) inv.1 ∙ ap (o.sum (span o old first (x - first))) read ∙ sym (span_more o old first x inv.0),
+      c.sum-late.ensures ∙ ap (λ v. o.sum v c.index-sheet-x.result) inv.1 ∙ ap (o.sum (span o old first (x - first))) read ∙ sym (span_more o old first x inv.0),
       (λ k h. other_cell o xs x k y (λ e. omega (arith, inv.0)) ∙ inv.2 k h),
       (λ k h l.
           ⊎_elim

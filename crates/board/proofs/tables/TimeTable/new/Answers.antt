@@ -30,7 +30,7 @@ invariant_of-result c =
     let P : List Pair → Type 0 = λ ps. lawful ps ≡ true in
     let short : length c.args.pairs.now ≤ 16 = grind (arith, nat_tests) in
     let e = copied _ _ c.loop-i.i c.loop-i.auto.i-end c.loop-i-test.false c.loop-i.invariant.0 in
-    (short, (subst P (sym e) (sym c.if-not-is_lawful.ensures), tt))
+    record { fits = short; sound = subst P (sym e) (sym c.if-not-is_lawful.ensures) }
 
 pub returns : goal.returns
 returns c = (sym c.if-not-is_lawful.ensures, copied _ _ c.loop-i.i c.loop-i.auto.i-end c.loop-i-test.false c.loop-i.invariant.0)

@@ -6,13 +6,11 @@ use Rattle.planfile.proofs.page.Page.push.Goals as goal
 pub invariant_of-self : goal.invariant_of-self
 invariant_of-self c =
     let p = c.args.self.now in
-    let l = length-take-le p.used p.bytes (omega arith) in (
-      length-set p.bytes p.used c.args.byte ∙ p.long,
-      (
-        omega (arith, c.requires),
-        (clear_more 512 p.bytes p.used c.args.byte p.clear, tt),
-      ),
-    )
+    let l = length-take-le p.used p.bytes (omega arith) in record {
+      long = length-set p.bytes p.used c.args.byte ∙ p.long;
+      fits = omega (arith, c.requires);
+      clear = clear_more 512 p.bytes p.used c.args.byte p.clear;
+    }
 
 pub returns : goal.returns
 returns c =
