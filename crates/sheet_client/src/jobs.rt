@@ -13,7 +13,7 @@ pub struct Job {
 
 /// Whether the rule ranks `job` below `other`.
 pub fn goes_ahead<R: Ranking>(rule: &R, job: Job, other: Job) -> bool
-    ensures { result ≡ nat_lt (ranks rule.now job.place job.period job.deadline job.release) (ranks rule.now other.place other.period other.deadline other.release) }
+    ensures { result ≡ nat_lt (R.ranks rule.now job.place job.period job.deadline job.release) (R.ranks rule.now other.place other.period other.deadline other.release) }
 {
     rule.rank(job.place, job.period, job.deadline, job.release)
         < rule.rank(other.place, other.period, other.deadline, other.release)

@@ -14,9 +14,9 @@ invariant_of-result c =
     let e = entry_of c.in_ok-task.task in
     let i = c.args.index in
     let place = c.args.place in
-    let is = given_entry _ _ _ _ c.entry.ensures c.ok_or.ensures.ok-part c.in_ok-task.was in
+    let is = given_entry _ _ _ _ c.entry.ensures c.ok_or.ensures.ok_part c.in_ok-task.was in
     let soon : due (job_at place e i) ≤ 32768 = omega (arith, c.window-end.ensures.bound, c.release_of-release.ensures) in
-    stands_at (plan_book p).places place i c.release_of-release.result e (plan_long p) is c.release_of-release.ensures soon (plan_ranges p place e is).deadline_low
+    record { sound = stands_at (plan_book p).places place i c.release_of-release.result e (plan_long p) is c.release_of-release.ensures soon (plan_ranges p place e is).deadline_low }
 
 pub returns : goal.returns
 returns c =
@@ -24,7 +24,7 @@ returns c =
     let e = entry_of c.in_ok-task.task in
     let i = c.args.index in
     let place = c.args.place in
-    let is = given_entry _ _ _ _ c.entry.ensures c.ok_or.ensures.ok-part c.in_ok-task.was in
+    let is = given_entry _ _ _ _ c.entry.ensures c.ok_or.ensures.ok_part c.in_ok-task.was in
     let early : release_of e i < window b = omega (arith, c.window-end.ensures.is, c.release_of-release.ensures) in
     let soon : due (job_at place e i) ≤ window b = omega (arith, c.window-end.ensures.is, c.release_of-release.ensures) in
     record {

@@ -18,6 +18,6 @@ returns g c =
     let is = f.finds ∙ long_told (length c.args.answer.now) (length c.args.work.now) _ la lw in
     record {
       answers = ap answered is;
-      leaves-answer = c.in_ok-exact.ensures.1 ∙ ap (λ q. answer o q old) (f.in_book rule) ∙ ap (λ r. filled o rule b r old) is;
-      leaves-work = c.in_ok-clear.ensures.1;
+      leaves_answer = c.in_ok-exact.ensures.1 ∙ ap (λ q. answer o q old) (f.in_book rule) ∙ ap (λ r. filled o rule b r old) is;
+      leaves_work = c.in_ok-clear.ensures.1;
     }

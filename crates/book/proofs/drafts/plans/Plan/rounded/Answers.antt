@@ -15,7 +15,7 @@ returns g c =
     let lw : 257 ≤ length c.args.work.now = omega arith in
     record {
       answers = late_told rule (plan_book c.args.self.now) _ (job_of a.job) (question_asked rule a) f.finds (f.in_book rule) (length c.args.answer.now) (length c.args.work.now) c.in_ok-late.late told.is.0 la lw;
-      leaves-answer = told.leaves.1;
-      leaves-work = c.in_ok-clear.ensures.1;
+      leaves_answer = told.leaves.1;
+      leaves_work = c.in_ok-clear.ensures.1;
       small = told.is.1;
     }

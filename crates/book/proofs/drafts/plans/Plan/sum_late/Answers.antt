@@ -16,7 +16,7 @@ overflow_cast-asked g c =
 
 pub invariant_of-asked : goal.invariant_of-asked
 invariant_of-asked g c =
-    ready_stands c.args.self.now c.args.batch.now c.loop-i.i c.release_of.result c.requires.0 c.loop-i-test.true c.release_of.ensures
+    record { sound = ready_stands c.args.self.now c.args.batch.now c.loop-i.i c.release_of.result c.requires.0 c.loop-i-test.true c.release_of.ensures }
 
 pub loop-i-preserved : goal.loop-i-preserved
 unfolding rounded_late

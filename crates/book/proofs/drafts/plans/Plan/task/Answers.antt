@@ -16,8 +16,8 @@ returns g c =
     let lw : 257 ≤ length c.args.work.now = omega arith in
     record {
       answers = batch_answer (g.R.Ranking.ranks c.args.rule.now) (plan_book p) c.args.place c.args.round x c.in_ok-late.late (length c.args.answer.now) (length c.args.work.now) is told.0 la lw;
-      leaves-answer = told.2;
-      leaves-work = c.in_ok-clear.ensures.1;
+      leaves_answer = told.2;
+      leaves_work = c.in_ok-clear.ensures.1;
       small = ((batch_ready p c.args.place c.args.round x is).few, told.1);
       covers = batch_covers p c.args.place c.args.round x is;
     }
