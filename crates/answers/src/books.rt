@@ -63,7 +63,7 @@ impl Shown for Plan {
 
 /// Writes the lines of the tasks of a book, by rising place.
 fn write_places<B: Shown>(book: &B, out: &mut Vec<u8>) -> Result<(), AllocError>
-    ensures { OnOk result (out.new.items ≡ out.old.items ++ places_text (shown book.now).places) }
+    ensures { OnOk result (out.new.items ≡ out.old.items ++ places_text (B.shown book.now).places) }
 {
     for place in 0..16 {
         write_place(place, book.task_at(place), out)?;
@@ -73,7 +73,7 @@ fn write_places<B: Shown>(book: &B, out: &mut Vec<u8>) -> Result<(), AllocError>
 
 /// Writes a first line, and what a book holds.
 fn write_book<B: Shown>(first: &[u8], book: &B, out: &mut Vec<u8>) -> Result<(), AllocError>
-    ensures { OnOk result (out.new.items ≡ out.old.items ++ book_text first.now (shown book.now)) }
+    ensures { OnOk result (out.new.items ≡ out.old.items ++ book_text first.now (B.shown book.now)) }
 {
     let opening = book.opening();
     write_text(first, out)?;

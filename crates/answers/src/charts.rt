@@ -10,7 +10,7 @@ use texts::{Printable, write_text};
 
 /// The largest size of the cells of a sheet.
 fn largest<W: Printable>(sheet: &[W]) -> u64
-    ensures { result ≡ largest_size size (cells W.ops sheet.now) 257 }
+    ensures { result ≡ largest_size W.size (cells W.ops sheet.now) 257 }
 {
     let mut most = 0;
     for place in 0..257 {
@@ -26,7 +26,7 @@ fn write_time_bar<W: Printable>(
     most: u64,
     out: &mut Vec<u8>,
 ) -> Result<(), AllocError>
-    ensures { OnOk result (out.new.items ≡ out.old.items ++ time_bar size most time cell) }
+    ensures { OnOk result (out.new.items ≡ out.old.items ++ time_bar W.size most time cell) }
 {
     let size = cell.size();
     if size == 0 {
@@ -43,7 +43,7 @@ fn write_time_bars<W: Printable>(
     most: u64,
     out: &mut Vec<u8>,
 ) -> Result<(), AllocError>
-    ensures { OnOk result (out.new.items ≡ out.old.items ++ time_bars size most (cells W.ops sheet.now)) }
+    ensures { OnOk result (out.new.items ≡ out.old.items ++ time_bars W.size most (cells W.ops sheet.now)) }
 {
     for time in 0..256 {
         write_time_bar(time, cell_at(sheet, time), most, out)?;
@@ -54,7 +54,7 @@ fn write_time_bars<W: Printable>(
 /// Writes the chart of a response: a line for each time whose cell is not nought, and one for the late cell. The cells that a sheet is
 /// too short for are nought.
 pub fn write_chart<W: Printable>(sheet: &[W], out: &mut Vec<u8>) -> Result<(), AllocError>
-    ensures { OnOk result (out.new.items ≡ out.old.items ++ chart_text size (cells W.ops sheet.now)) }
+    ensures { OnOk result (out.new.items ≡ out.old.items ++ chart_text W.size (cells W.ops sheet.now)) }
 {
     let most = largest(sheet);
     write_time_bars(sheet, most, out)?;

@@ -27,7 +27,7 @@ pub(crate) fn late_cell<W: Weight>(sheet: &[W]) -> W
 
 /// Writes a time and the weight of its cell, where that is not nought.
 fn write_time<W: Printable>(time: usize, cell: W, out: &mut Vec<u8>) -> Result<(), AllocError>
-    ensures { OnOk result (out.new.items ≡ out.old.items ++ time_text size text time cell) }
+    ensures { OnOk result (out.new.items ≡ out.old.items ++ time_text W.size W.text time cell) }
 {
     if cell.size() == 0 {
         return Ok(());
@@ -41,7 +41,7 @@ fn write_time<W: Printable>(time: usize, cell: W, out: &mut Vec<u8>) -> Result<(
 
 /// Writes the weight of the late cell, and ends the line.
 fn write_late<W: Printable>(cell: W, out: &mut Vec<u8>) -> Result<(), AllocError>
-    ensures { OnOk result (out.new.items ≡ out.old.items ++ late_text (text cell)) }
+    ensures { OnOk result (out.new.items ≡ out.old.items ++ late_text (W.text cell)) }
 {
     write_text(b"late ", out)?;
     cell.write(out)?;
@@ -51,7 +51,7 @@ fn write_late<W: Printable>(cell: W, out: &mut Vec<u8>) -> Result<(), AllocError
 
 /// Writes the times of a sheet whose cell is not nought, rising, with their weights.
 fn write_times<W: Printable>(sheet: &[W], out: &mut Vec<u8>) -> Result<(), AllocError>
-    ensures { OnOk result (out.new.items ≡ out.old.items ++ times_text size text (cells W.ops sheet.now)) }
+    ensures { OnOk result (out.new.items ≡ out.old.items ++ times_text W.size W.text (cells W.ops sheet.now)) }
 {
     for time in 0..256 {
         write_time(time, cell_at(sheet, time), out)?;
@@ -62,7 +62,7 @@ fn write_times<W: Printable>(sheet: &[W], out: &mut Vec<u8>) -> Result<(), Alloc
 /// Writes the line of a response: each time whose cell is not nought with its weight, and the late weight. The cells that a sheet is
 /// too short for are nought.
 pub fn write_response<W: Printable>(sheet: &[W], out: &mut Vec<u8>) -> Result<(), AllocError>
-    ensures { OnOk result (out.new.items ≡ out.old.items ++ response_text size text (cells W.ops sheet.now)) }
+    ensures { OnOk result (out.new.items ≡ out.old.items ++ response_text W.size W.text (cells W.ops sheet.now)) }
 {
     write_times(sheet, out)?;
     write_late(late_cell(sheet), out)?;

@@ -23,8 +23,8 @@ returns-in-Ok c =
     let x = body_read f b e body.period body.phase body.deadline c.table.result.now k.0 k.1 k.2 (c.table.ensures ∙ k.4) in
     body_taken f b e _ (sym x.answers ∙ sym c.in-Ok.ensures.answers) (c.in-Ok.ensures.leaves ∙ x.leaves)
 
-pub returns-in_ok-offset : goal.returns-in_ok-offset
-returns-in_ok-offset c =
+pub returns-in_ok-offset-in-Err : goal.returns-in_ok-offset-in-Err
+returns-in_ok-offset-in-Err c =
     let f = c.args.file.now in
     let b = draft_book c.args.draft.now in
     let e = get_or c.args.entries.now c.args.i blank in
@@ -33,5 +33,5 @@ returns-in_ok-offset c =
     let r = c.in-Err.refusal in
     let x = body_read f b e body.period body.phase body.deadline c.table.result.now k.0 k.1 k.2 (c.table.ensures ∙ k.4) in
     let n : number r ≡ body_refusal f b e = c.in-Err.ensures.answers ∙ x.answers in
-    let t : told c.at.result ≡ book_fault (number r) c.in_ok-offset.offset = ap told c.at.ensures ∙ ap (λ y. told (record { cause = y.cause; offset = c.in_ok-offset.offset })) c.from.ensures in
-    ap Err (t ∙ ap (book_fault (number r)) c.in_ok-offset.ensures) ∙ body_refused f b e (number r) (numbered r).0 n
+    let t : told c.at.result ≡ book_fault (number r) c.in_ok-offset-in-Err.offset = ap told c.at.ensures ∙ ap (λ y. told (record { cause = y.cause; offset = c.in_ok-offset-in-Err.offset })) c.from.ensures in
+    ap Err (t ∙ ap (book_fault (number r)) c.in_ok-offset-in-Err.ensures) ∙ body_refused f b e (number r) (numbered r).0 n
