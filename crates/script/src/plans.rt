@@ -22,7 +22,7 @@ use texts::Printable;
 
 /// Writes the answer on a sheet, and its chart where one is wanted.
 fn write_drawn<W: Printable>(sheet: &[W], chart: bool, out: &mut Vec<u8>) -> Result<(), AllocError>
-    ensures { OnOk result (out.new.items ≡ out.old.items ++ drawn chart size text (cells W.ops sheet.now)) }
+    ensures { OnOk result (out.new.items ≡ out.old.items ++ drawn chart W.size W.text (cells W.ops sheet.now)) }
 {
     write_response(sheet, out)?;
     if chart {
@@ -42,7 +42,7 @@ fn respond<W: Printable>(
     chart: bool,
     out: &mut Vec<u8>,
 ) -> Result<(), AllocError>
-    ensures { OnOk result (out.new.items ≡ out.old.items ++ sheet_text chart W.ops size text (rule_rank rule.now) (plan_book plan.now) (cells W.ops answer.old) (response_answer W.ops (rule_rank rule.now) (plan_book plan.now) place index (length answer.old) (length work.old))) }
+    ensures { OnOk result (out.new.items ≡ out.old.items ++ sheet_text chart W.ops W.size W.text (rule_rank rule.now) (plan_book plan.now) (cells W.ops answer.old) (response_answer W.ops (rule_rank rule.now) (plan_book plan.now) place index (length answer.old) (length work.old))) }
 {
     match plan.response(rule, place, index, answer, work) {
         Ok(()) => write_drawn(answer, chart, out),
