@@ -1,11 +1,11 @@
 -- What the operations do to the tails of a sheet, for other crates to cite. Assumes nothing.
-use Rattle.std.proofs.Common.{◌≡◌, ℕ, zero, suc, ◌+◌, ◌-◌, ◌*◌, ◌<◌, ◌≤◌, ◌⊎◌, List, sym, refl, ap, ◌∙◌, subst, ap₂, inl, inr, mul-le-mul_right, arith}
+use Rattle.std.proofs.Common.{◌≡◌, ℕ, zero, suc, ◌+◌, ◌-◌, ◌*◌, ◌<◌, ◌≤◌, ◌⊎◌, List, sym, ap, ◌∙◌, inl, inr, mul-le-mul_right, arith}
 use Rattle.std.proofs.lemmas.Bool.{cases_lt}
 use Rattle.theory.specs.Rounded.{up}
 use Rattle.analysis.specs.Cells.{span, tail, passed, total, added}
 use Rattle.kinds.specs.Counts.{count_ops, count_laws}
 use Rattle.analysis.specs.Kept.{RoundingDivides}
-use Rattle.analysis.specs.Rounding.{rounded_off, lessened}
+use Rattle.analysis.specs.Rounding.{rounded_off}
 use Rattle.kinds.specs.Stopped.{stop}
 use Rattle.kinds.specs.declared.count.Count.{Count}
 use Rattle.analysis.specs.declared.pair.Pair.{Pair}

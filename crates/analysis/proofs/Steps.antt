@@ -1,12 +1,12 @@
 -- The steps of the loops over a sheet or a table. Assumes nothing.
-use Rattle.std.proofs.Common.{◌≡◌, ℕ, zero, suc, ◌+◌, ◌-◌, ◌<◌, ◌≤◌, min, Bool, true, false, cond, eqb, ltb, leb, ◌≢◌, ◌⊎◌, List, length, get_or, take, set, sym, refl, ap, ◌∙◌, inl, inr, add-zero, add_assoc, add-suc, arith}
+use Rattle.std.proofs.Common.{◌≡◌, ℕ, zero, suc, ◌+◌, ◌-◌, ◌<◌, ◌≤◌, min, cond, eqb, ltb, leb, ◌⊎◌, List, length, get_or, take, set, sym, ap, ◌∙◌, inl, inr, add-zero, add_assoc, add-suc, arith}
 use Rattle.std.proofs.lemmas.List.{get_or-set_same, get_or-set_other}
 use Rattle.std.proofs.lemmas.Bool.{cases_eq, cond-true, lt-ltb}
 use Rattle.std.proofs.lemmas.Bool.Decides.{nat_tests}
 use Rattle.std.proofs.lemmas.List.Sums.{fold_more}
 use Rattle.theory.specs.Semiring.{Ops, Laws}
 use Rattle.analysis.specs.declared.pair.Pair.{Pair}
-use Rattle.analysis.specs.Cells.{cells, span, tail, over, later, passed, total, share, arriving, beyond, added, tailed, cleared}
+use Rattle.analysis.specs.Cells.{cells, span, tail, over, later, passed, total, arriving, beyond, added, tailed, cleared}
 use Rattle.analysis.specs.Inner.{joint, spreading, scaled}
 
 module _ {K : Type 0} (o : Ops K) where

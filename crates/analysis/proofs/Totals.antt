@@ -1,7 +1,7 @@
 -- What the laws give of sums over a table. Assumes nothing.
-use Rattle.std.proofs.Common.{◌≡◌, ℕ, ◌+◌, ◌-◌, ◌≤◌, max, List, [], ◌∷◌, fold, sym, refl, ap, ◌∙◌, arith}
+use Rattle.std.proofs.Common.{◌≡◌, ℕ, ◌-◌, ◌≤◌, List, [], ◌∷◌, fold, sym, refl, ap, ◌∙◌, arith}
 use Rattle.theory.specs.Semiring.{Ops, Laws}
-use Rattle.analysis.specs.Cells.{over, span, first, fresh, beyond, total}
+use Rattle.analysis.specs.Cells.{over, span, first, fresh, beyond}
 use Rattle.analysis.specs.Inner.{excess, overdue}
 use Rattle.analysis.specs.declared.pair.Pair.{Pair}
 use Rattle.analysis.proofs.Steps.{span_more}

@@ -1,9 +1,8 @@
 -- Passing and adding keep the weight. Assumes nothing.
-use Rattle.std.proofs.Common.{◌≡◌, ℕ, zero, suc, ◌+◌, ◌-◌, ◌<◌, ◌≤◌, min, max, cond, eqb, ltb, leb, List, [], ◌∷◌, sym, refl, ap, ◌∙◌, ap₂, add-zero, add_assoc, add-suc, add-one, arith}
-use Rattle.std.proofs.lemmas.Bool.{cond-true, cond-false, lt-ltb, le-ltb, le-leb, lt-leb, eq-eqb, ne_eqb}
-use Rattle.std.proofs.lemmas.Bool.Decides.{nat_tests}
+use Rattle.std.proofs.Common.{◌≡◌, ℕ, zero, suc, ◌+◌, ◌-◌, ◌<◌, ◌≤◌, min, eqb, ltb, leb, List, sym, refl, ap, ◌∙◌, ap₂, add-zero, arith}
+use Rattle.std.proofs.lemmas.Bool.{cond-true, cond-false, lt-ltb, le-ltb, le-leb, lt-leb, ne_eqb}
 use Rattle.theory.specs.Semiring.{Ops, Laws}
-use Rattle.analysis.specs.Cells.{span, tail, over, later, passed, total, share, arriving, first, fresh, beyond, added}
+use Rattle.analysis.specs.Cells.{span, tail, over, passed, total, share, arriving, first, fresh, beyond, added}
 use Rattle.analysis.specs.Kept.{PassingKeeps, AddingMultiplies}
 use Rattle.analysis.specs.declared.pair.Pair.{Pair}
 use Rattle.analysis.proofs.Steps.{sum_nought_right, span_split, span_first}

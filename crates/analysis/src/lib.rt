@@ -1,4 +1,6 @@
 //! Weight kinds, sheets of weights, and ranking rules.
+#![tactic(auto)]
+
 mod adding;
 mod keeping;
 mod pair;

@@ -1,4 +1,6 @@
 //! The answers of a console as bytes: what each call on a book prints.
+#![tactic(auto)]
+
 mod answers;
 mod bars;
 mod books;

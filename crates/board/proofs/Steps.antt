@@ -1,7 +1,7 @@
 -- One step of a loop over the places, and of the search for the hyperperiod.
-use Rattle.std.proofs.Common.{◌≡◌, ℕ, zero, suc, ◌+◌, ◌-◌, ◌/◌, ◌%◌, ◌<◌, ◌≤◌, true, false, cond, ◌&&◌, eqb, List, ◌∷◌, length, get_or, drop, Some, None, Option, sym, ap, ◌∙◌, arith}
+use Rattle.std.proofs.Common.{◌≡◌, ℕ, zero, suc, ◌+◌, ◌/◌, ◌%◌, ◌<◌, ◌≤◌, true, false, cond, ◌&&◌, eqb, List, ◌∷◌, length, get_or, drop, Some, None, Option, sym, ap, ◌∙◌, arith}
 use Rattle.std.proofs.lemmas.List.{at_drop_more}
-use Rattle.board.specs.Model.{Entry, divided, jobs, first_divided, hyperperiod}
+use Rattle.board.specs.Model.{Entry, divided, jobs, first_divided}
 
 pub at_read : {X Y : Type 0} (F : List X → Y) (xs : List X) (i : ℕ) (d v : X) → i < length xs → v ≡ get_or xs i d → F (drop i xs) ≡ F (v ∷ drop (i + 1) xs)
 at_read F xs i d v h e = at_drop_more F xs i d h ∙ ap (λ w. F (w ∷ drop (i + 1) xs)) (sym e)

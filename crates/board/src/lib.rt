@@ -1,4 +1,6 @@
 //! A board's periodic tasks: time tables, the tasks at sixteen places, and what is answered of one of their jobs.
+#![tactic(auto)]
+
 mod jobs;
 mod places;
 mod tables;

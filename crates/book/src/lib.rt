@@ -1,4 +1,6 @@
 //! A book of a board's periodic tasks: a draft that is edited, and the plan it issues, which answers questions.
+#![tactic(auto)]
+
 mod batches;
 mod drafts;
 mod lateness;

@@ -1,4 +1,6 @@
 //! Examples on drafts, plans and reports.
+#![tactic(auto)]
+
 #[cfg(test)]
 mod answers;
 #[cfg(test)]

@@ -1,4 +1,6 @@
 //! The console: a script of calls on standard input, one a line, and their answers on standard output.
+#![tactic(auto)]
+
 use analysis::{Count, Heaviest, Possible, Weight};
 use anyhow::anyhow;
 use guarantees::slower_never_better;

@@ -1,4 +1,6 @@
 //! Guarantees: what holds of the answers of two books over every run of calls.
+#![tactic(auto)]
+
 ghost use Rattle.guarantees.specs.Law.{Law};
 
 use theory::Weight;

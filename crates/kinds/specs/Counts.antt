@@ -1,6 +1,6 @@
 -- Counts as weights. Assumes nothing.
-use Rattle.std.specs.Prelude.{◌≡◌, ℕ, ◌+◌, ◌*◌, ◌^◌, ◌<◌, ◌≤◌, ◌==◌, refl}
-use Rattle.std.proofs.Common.{sym, ap, subst, ◌∙◌, mul_comm, one-mul, zero-mul, arith}
+use Rattle.std.specs.Prelude.{◌≡◌, ℕ, ◌+◌, ◌*◌, ◌^◌, ◌<◌, ◌≤◌, ◌==◌}
+use Rattle.std.proofs.Common.{ap, subst, mul_comm, one-mul, zero-mul, arith}
 use Rattle.std.proofs.Math.Bridge.{le_prop}
 use Rattle.theory.specs.Semiring.{Ops, Laws}
 use Rattle.kinds.specs.Stopped.{stop, stop_mul_assoc, stop_mul_add, stop_mul_le}

@@ -1,6 +1,6 @@
 -- The largest product as a weight. Assumes nothing.
-use Rattle.std.specs.Prelude.{◌≡◌, ℕ, ◌*◌, ◌^◌, ◌<◌, ◌≤◌, max, ◌==◌, refl}
-use Rattle.std.proofs.Common.{sym, ap, subst, ◌∙◌, mul_comm, one-mul, zero-mul, arith}
+use Rattle.std.specs.Prelude.{◌≡◌, ℕ, ◌*◌, ◌^◌, ◌<◌, ◌≤◌, max, ◌==◌}
+use Rattle.std.proofs.Common.{ap, subst, mul_comm, one-mul, zero-mul, arith}
 use Rattle.std.proofs.Math.Bridge.{le_prop}
 use Rattle.theory.specs.Semiring.{Ops, Laws}
 use Rattle.kinds.specs.Stopped.{stop, stop_mul_assoc, stop_mul_max, stop_mul_le}

@@ -1,4 +1,6 @@
 //! The weight kinds that are built: counts, possible and heaviest.
+#![tactic(auto)]
+
 mod count;
 mod count_weight;
 mod heaviest;

@@ -2,7 +2,6 @@
 use Rattle.std.specs.Prelude.{ℕ, zero, suc, cond, List, [], ◌∷◌, Some, None, codes, Option}
 use Rattle.std.specs.Option.{option_map}
 use Rattle.std.specs.Str.{bytes_eq}
-use Rattle.analysis.specs.declared.ranking.TableRule.{TableRule}
 use Rattle.lines.specs.declared.rules.Kind.{Kind}
 use Rattle.lines.specs.declared.rules.Kind.TheVariants.{Counts, Possible, Heaviest}
 use Rattle.lines.specs.declared.rules.Rule.{Rule}

@@ -1,4 +1,6 @@
 //! The lines of a console script: what each line means.
+#![tactic(auto)]
+
 mod calls;
 mod fields;
 mod laws;

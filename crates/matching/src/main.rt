@@ -1,5 +1,7 @@
 //! Puts the same questions to the proved book and to a simulator, and to pairs of books of which one is worse, and says how many
 //! answers differ.
+#![tactic(auto)]
+
 mod asks;
 mod books;
 mod compare;

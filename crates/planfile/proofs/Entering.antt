@@ -1,12 +1,12 @@
 -- What the book says of a body, and what a file with right contents has.
-use Rattle.std.proofs.Common.{◌≡◌, ℕ, zero, suc, ◌+◌, ◌*◌, ◌<◌, ◌≤◌, Bool, true, false, cond, ◌&&◌, eqb, ltb, leb, ◌⊎◌, List, [], ◌∷◌, ◌++◌, length, get_or, take, drop, set, Some, None, Ok, Err, Option, Result, unwrap_or, sym, refl, ap, ◌∙◌, subst, ⊎_elim, arith}
+use Rattle.std.proofs.Common.{◌≡◌, ℕ, zero, suc, ◌+◌, ◌*◌, ◌<◌, ◌≤◌, true, false, cond, ◌&&◌, eqb, ltb, leb, ◌⊎◌, List, [], ◌∷◌, ◌++◌, length, get_or, take, drop, set, Some, None, Ok, Err, unwrap_or, sym, refl, ap, ◌∙◌, ⊎_elim, arith}
 use Rattle.std.proofs.lemmas.List.{at_drop_more, take_more}
 use Rattle.std.proofs.lemmas.Bool.{and_parts, and_from, and_left, and_right, cond-true, cond-false, cond_both, cases_Bool, eq-eqb, ne_eqb, eqb-true, leb-true, le-leb, lt-leb}
 use Rattle.std.proofs.lemmas.Bool.Decides.{nat_tests}
 use Rattle.analysis.specs.declared.pair.Pair.{Pair}
 use Rattle.board.specs.Model as model
 use Rattle.board.specs.Model.{Book, new_book}
-use Rattle.book.specs.Moves.{enter_refusal, entered, bound_refusal, with_places}
+use Rattle.book.specs.Moves.{enter_refusal, entered, bound_refusal}
 use Rattle.book.specs.declared.refusals.Refusal.{Refusal}
 use Rattle.book.specs.declared.refusals.Refusal.TheVariants.{Place, Period, Phase, Deadline, Table, Hyperperiod, Jobs, Empty, Rounds, Sheet, NoJob, Window, TooHeavy}
 use Rattle.book.specs.Refusals.{number}
@@ -15,7 +15,7 @@ use Rattle.planfile.specs.declared.contents.Entry.{Entry}
 use Rattle.planfile.specs.Faults.{Told, file_fault, book_fault}
 use Rattle.planfile.specs.Fields.{byte, word}
 use Rattle.planfile.specs.Contents.{pair_count, blank, placed, sized, entry_number, body_end, entries_fault, contents_fit, contents_end, contents_fault, contents}
-use Rattle.planfile.specs.Bodies.{pairs, body_pairs, task, body_refusal, body_entered, and_then, wrong_pair, wrong_in, within, table_offset, refusal_offset, bodies_entered}
+use Rattle.planfile.specs.Bodies.{body_pairs, task, body_refusal, body_entered, and_then, wrong_pair, wrong_in, within, table_offset, refusal_offset, bodies_entered}
 use Rattle.planfile.specs.Loads.{loaded, ended, unless, bodies_end}
 use Rattle.planfile.proofs.Wrong.{length_pairs, lawful_right, wrong_push}
 use Rattle.planfile.proofs.Listed.{number_unplaced, number_unsized}

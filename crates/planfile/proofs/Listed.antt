@@ -1,10 +1,10 @@
 -- One step of the loop over the contents.
-use Rattle.std.proofs.Common.{◌≡◌, ℕ, ◌+◌, ◌*◌, ◌<◌, ◌≤◌, Bool, true, false, cond, eqb, List, [], ◌∷◌, ◌++◌, length, get_or, take, drop, set, Some, None, Option, sym, refl, ap, ◌∙◌, subst, arith}
+use Rattle.std.proofs.Common.{◌≡◌, ℕ, ◌+◌, ◌*◌, ◌<◌, ◌≤◌, true, false, eqb, List, [], ◌∷◌, ◌++◌, length, get_or, take, drop, set, Some, sym, ap, ◌∙◌, arith}
 use Rattle.std.proofs.lemmas.List.FromFn.{length-map-range_with_len, get_or-map-range_with_len}
 use Rattle.std.proofs.lemmas.List.{at_drop_more, take_more, take_more_set}
 use Rattle.std.proofs.lemmas.Bool.{eq-eqb, ne_eqb, cond-true, cond-false}
 use Rattle.planfile.specs.declared.contents.Entry.{Entry}
-use Rattle.planfile.specs.Faults.{Told, file_fault}
+use Rattle.planfile.specs.Faults.{file_fault}
 use Rattle.planfile.specs.Fields.{byte}
 use Rattle.planfile.specs.Contents.{entry, contents, placed, sized, entry_number, body_end, entries_fault, last_end}
 

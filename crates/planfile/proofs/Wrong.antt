@@ -1,12 +1,12 @@
 -- One step over the pairs of a body, and over the bodies.
-use Rattle.std.proofs.Common.{◌≡◌, ℕ, ◌+◌, ◌*◌, ◌<◌, ◌≤◌, Bool, true, false, cond, ◌&&◌, leb, ◌⊎◌, List, [], ◌∷◌, ◌++◌, length, get_or, take, drop, set, Some, None, Option, sym, refl, ap, ◌∙◌, subst, ⊎_elim, arith}
+use Rattle.std.proofs.Common.{◌≡◌, ℕ, ◌+◌, ◌*◌, ◌<◌, ◌≤◌, true, false, ◌&&◌, leb, ◌⊎◌, List, [], ◌∷◌, ◌++◌, length, get_or, take, drop, set, Some, None, Option, sym, refl, ap, ◌∙◌, ⊎_elim, arith}
 use Rattle.std.proofs.lemmas.List.FromFn.{length-map-range_with_len, get_or-map-range_with_len}
 use Rattle.std.proofs.lemmas.List.{at_drop_more, take_more, take_more_set}
 use Rattle.std.proofs.lemmas.Bool.{and_parts, and_from, and_left, and_right, cond-true, cond-false, leb-true, le-leb, lt-leb}
 use Rattle.analysis.specs.declared.pair.Pair.{Pair}
 use Rattle.board.specs.Pairs.{rising, weighted}
 use Rattle.planfile.specs.declared.contents.Entry.{Entry}
-use Rattle.planfile.specs.Fields.{byte, word, pair}
+use Rattle.planfile.specs.Fields.{pair}
 use Rattle.planfile.specs.Contents.{pair_count}
 use Rattle.planfile.specs.Bodies.{pairs, first_wrong, wrong_pair, wrong_in, within, or_else}
 

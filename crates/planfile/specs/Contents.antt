@@ -1,5 +1,5 @@
 -- The contents of a plan file: its entries, and the first fault in them.
-use Rattle.std.specs.Prelude.{ℕ, ◌+◌, ◌*◌, Bool, true, false, cond, not, ◌&&◌, ◌||◌, List, [], ◌∷◌, ◌++◌, map, length, Some, None, Option, ◌==◌, nat_le}
+use Rattle.std.specs.Prelude.{ℕ, ◌+◌, ◌*◌, Bool, false, cond, not, ◌&&◌, ◌||◌, List, [], ◌∷◌, ◌++◌, map, length, Some, None, Option, ◌==◌, nat_le}
 use Rattle.std.specs.List.{range_with_len}
 use Rattle.planfile.specs.declared.contents.Entry.{Entry}
 use Rattle.planfile.specs.Faults.{Told, file_fault}

@@ -1,5 +1,5 @@
 -- What loading a plan file gives: the book of its tasks, or the first fault.
-use Rattle.std.specs.Prelude.{ℕ, Bool, true, false, cond, List, length, Some, None, Ok, Err, Option, Result, nat_le}
+use Rattle.std.specs.Prelude.{ℕ, cond, List, length, Some, None, Ok, Err, Option, Result, nat_le}
 use Rattle.board.specs.Model.{Book, new_book}
 use Rattle.planfile.specs.Faults.{Told, file_fault}
 use Rattle.planfile.specs.Contents.{contents, contents_end, contents_fault, last_end}

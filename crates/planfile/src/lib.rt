@@ -1,4 +1,6 @@
 //! Plan files: the tasks of a book as bytes, loaded whole into a draft.
+#![tactic(auto)]
+
 mod bodies;
 mod contents;
 pub mod faults;

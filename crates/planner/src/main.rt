@@ -1,4 +1,6 @@
 //! The planner: a plan file on standard input, and on standard output how much of each task's running comes in late.
+#![tactic(auto)]
+
 ghost use Rattle.std.specs.Prelude.{◌≤◌, length, IfOk};
 
 use analysis::{Count, Weight};

@@ -4,10 +4,10 @@ use mathlib.Core.Path.{fun_ext}
 use Rattle.std.proofs.lemmas.Bool.{cases_lt, lt-ltb, le-ltb, le-leb, lt-leb}
 use Rattle.theory.specs.Semiring.{Ops, Laws}
 use Rattle.theory.specs.Sums.{over, weigh, mean, down, cells}
-use Rattle.theory.specs.Walk.{rest, from}
+use Rattle.theory.specs.Walk.{rest}
 use Rattle.theory.proofs.Sums.{over_same, over_nought, nought_product, unit_product}
 use Rattle.theory.proofs.Pushed.{tail_mean, mean_cells, cell_back}
-use Rattle.analysis.specs.Cells.{span, tail, added}
+use Rattle.analysis.specs.Cells.{span, tail}
 
 module _ {K : Type 0} {ops : Ops K} {least : K → K → Type 0} (laws : Laws ops least) where
   -- the cells from a on

@@ -9,7 +9,7 @@ use Rattle.theory.specs.Walk.{Leg, readings, stepped, next, after, from}
 use Rattle.theory.proofs.Pushed.{cell_mean, mean_stepped}
 use Rattle.theory.proofs.Tails.{mean_swap}
 use Rattle.analysis.specs.declared.pair.Pair.{Pair}
-use Rattle.analysis.specs.Cells.{over, share, first, passed, added}
+use Rattle.analysis.specs.Cells.{over, share, first, added}
 use Rattle.analysis.specs.Inner.{excess}
 use Rattle.analysis.proofs.Totals.{over_cons, over_product, overdue_is}
 use Rattle.scenarios.specs.Questions.{drawn_from}

@@ -1,12 +1,11 @@
 -- A question over worse tables has a worse walk, and its scenarios weigh the same in all. Assumes nothing.
 use Rattle.std.proofs.Common.{◌≡◌, ℕ, ◌+◌, ◌-◌, List, [], ◌∷◌, ◌++◌, map, sym, refl, ap, ◌∙◌, ap₂, subst₂}
 use Rattle.theory.specs.Semiring.{Ops, Laws}
-use Rattle.theory.specs.Sums.{over}
 use Rattle.theory.specs.Walk.{Leg, sheet, rest, after, from}
 use Rattle.theory.specs.Walk.{Harder as HarderLegs}
 use Rattle.theory.proofs.Moves.{moves_fair}
 use Rattle.theory.proofs.Tails.{never_later}
-use Rattle.scenarios.specs.Questions.{Counted, Question, counted, upto, drawn_from, tables, product_of, weight_of_all}
+use Rattle.scenarios.specs.Questions.{Counted, Question, counted, upto, drawn_from, product_of, weight_of_all}
 use Rattle.scenarios.specs.Walks.{legs_upto, legs_later, legs}
 use Rattle.scenarios.specs.Theorems.{AllFit, Sound, Harder, WorseQuestion}
 use Rattle.scenarios.proofs.BridgePassing.{below_small}

@@ -1,7 +1,7 @@
 -- The exact sheet of a question is the sheet of its walk, leg by leg. Assumes nothing.
 use Rattle.std.proofs.Common.{◌≡◌, ℕ, ◌+◌, ◌-◌, ◌<◌, ◌≤◌, List, [], ◌∷◌, ◌++◌, sym, refl, ap, ◌∙◌, arith}
 use Rattle.theory.specs.Semiring.{Ops, Laws}
-use Rattle.theory.specs.Sums.{cell, cells, Below}
+use Rattle.theory.specs.Sums.{cell, Below}
 use Rattle.theory.specs.Sums.{tail as spread_tail}
 use Rattle.theory.specs.Walk.{Leg, readings, stepped, next, run, sheet, rest, Stays}
 use Rattle.theory.proofs.Moves.{moves_fair}

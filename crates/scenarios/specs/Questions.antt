@@ -1,5 +1,5 @@
 -- A question about one job, its scenarios, the outcome of each on the processor, and the answer sheet.
-use Rattle.std.specs.Prelude.{ℕ, zero, suc, ◌+◌, Bool, true, false, cond, ◌||◌, List, [], ◌∷◌, ◌++◌, map, take, ◌==◌, nat_eq, nat_le, nat_lt}
+use Rattle.std.specs.Prelude.{ℕ, zero, suc, ◌+◌, Bool, false, cond, ◌||◌, List, [], ◌∷◌, ◌++◌, map, take, ◌==◌, nat_eq, nat_le, nat_lt}
 use Rattle.theory.specs.Semiring.{Ops}
 use Rattle.theory.specs.Sums.{over, kept}
 use Rattle.theory.specs.Walk.{Table, draws, weight}

@@ -1,5 +1,5 @@
 -- What is proved of a question's walk.
-use Rattle.std.specs.Prelude.{◌≡◌, ℕ, ◌+◌, ◌*◌, ◌^◌, ◌<◌, ◌≤◌, List, [], ◌∷◌, ◌++◌, length}
+use Rattle.std.specs.Prelude.{◌≡◌, ℕ, ◌+◌, ◌^◌, ◌<◌, ◌≤◌, List, [], ◌∷◌, length}
 use Rattle.theory.specs.Semiring.{Ops}
 use Rattle.theory.specs.Sums.{over}
 use Rattle.theory.specs.Walk.{Worse}

@@ -1,5 +1,5 @@
 -- The walk over the counted jobs on a sheet, exact and over any kind, and rounded and in counts.
-use Rattle.std.specs.Prelude.{ℕ, ◌+◌, ◌-◌, Bool, cond, List, [], ◌∷◌, ◌++◌, ◌==◌}
+use Rattle.std.specs.Prelude.{ℕ, ◌+◌, ◌-◌, cond, List, [], ◌∷◌, ◌++◌, ◌==◌}
 use Rattle.theory.specs.Semiring.{Ops}
 use Rattle.theory.specs.Walk.{Leg, after, from}
 use Rattle.analysis.specs.declared.pair.Pair.{Pair}

@@ -1,4 +1,6 @@
 //! Scenarios: what a walk over counted jobs on a sheet says of all scenarios on the processor.
+#![tactic(auto)]
+
 ghost use Rattle.scenarios.specs.Theorems.{ExactAnswers, ExactNeverBetter};
 
 mod rounding;

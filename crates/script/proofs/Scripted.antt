@@ -1,9 +1,9 @@
 -- A script that is read line by line.
-use Rattle.std.proofs.Common.{◌≡◌, ℕ, Bool, true, false, cond, not, ◌&&◌, eqb, List, [], ◌∷◌, ◌++◌, sym, refl, ap, ◌∙◌, arith}
+use Rattle.std.proofs.Common.{◌≡◌, ℕ, true, false, not, eqb, List, [], ◌∷◌, ◌++◌, refl, ap, ◌∙◌, arith}
 use Rattle.std.proofs.lemmas.Bool.{and_parts, cond-false}
 use Rattle.std.proofs.lemmas.Bool.Decides.{nat_tests}
 use Rattle.lines.specs.declared.reading.Line.{Line}
-use Rattle.script.specs.Buffers.{Gathered, gather, added, all_added, told, bounded_meaning}
+use Rattle.script.specs.Buffers.{Gathered, gather, added, all_added, told}
 use Rattle.script.specs.Replies.{line_reply, line_after}
 use Rattle.script.specs.Scripts.{Progress, number, line_ended, byte_taken, taken}
 use Rattle.script.specs.Laws.{no_feed, line_done}

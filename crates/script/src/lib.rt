@@ -1,4 +1,6 @@
 //! A script of calls on one book: what each line prints, and where it leads.
+#![tactic(auto)]
+
 mod buffer;
 mod drafts;
 mod laws;

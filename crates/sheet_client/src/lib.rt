@@ -1,4 +1,6 @@
 //! The response of a job that waits for another on one processor, with kinds, sheets and rules alone.
+#![tactic(auto)]
+
 mod jobs;
 mod responses;
 

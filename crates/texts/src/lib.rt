@@ -1,4 +1,6 @@
 //! Texts as bytes: numbers in decimal, and the elements of the kinds.
+#![tactic(auto)]
+
 mod count_printable;
 mod heaviest_printable;
 mod possible_printable;

@@ -1,10 +1,10 @@
 -- Tails of a sheet of cells, over the whole numbers. Assumes nothing.
-use Rattle.std.proofs.Common.{◌≡◌, ℕ, zero, suc, ◌+◌, ◌-◌, ◌*◌, ◌/◌, ◌<◌, ◌≤◌, Bool, true, false, cond, leb, List, [], ◌∷◌, map, sym, refl, ap, ◌∙◌, subst, subst₂, inl, inr, mul_comm, mul-le-mul_left, mul-zero, le-div_iff_mul-le, mul-suc, arith}
+use Rattle.std.proofs.Common.{◌≡◌, ℕ, zero, suc, ◌+◌, ◌-◌, ◌*◌, ◌<◌, ◌≤◌, Bool, true, false, cond, leb, List, ◌∷◌, sym, refl, ap, ◌∙◌, subst₂, inl, inr, mul_comm, mul-le-mul_left, mul-zero, le-div_iff_mul-le, mul-suc, arith}
 use Rattle.std.proofs.lemmas.Bool.{cases_lt, le-leb, lt-leb, leb-true, both_ways}
 use Rattle.std.proofs.lemmas.Bool.Decides.{nat_tests}
-use Rattle.theory.specs.Sums.{over, kept, weigh, mean, tail, Below, down, cells, first}
-use Rattle.theory.specs.Walk.{Table, Leg, readings, next, rest}
-use Rattle.theory.specs.Rounded.{nat_ops, total, up, moved, rounded_start, rounded_next, SoundLeg, Falling, KeptByCells, ByCells}
+use Rattle.theory.specs.Sums.{over, kept, tail, down, cells, first}
+use Rattle.theory.specs.Walk.{Leg, readings, rest}
+use Rattle.theory.specs.Rounded.{nat_ops, total, up, moved, SoundLeg, ByCells}
 use Rattle.theory.proofs.Sums.{over_same, over_nought, over_least}
 use Rattle.theory.proofs.Pushed.{below_cells, below_readings, tail_mean}
 use Rattle.theory.proofs.Tails.{first_le, tail_beyond, tail_by_times, rest_next}

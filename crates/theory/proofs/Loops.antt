@@ -1,5 +1,5 @@
 -- For code that fills a sheet: one cell more, one pair more, one old state more. Assumes nothing.
-use Rattle.std.proofs.Common.{◌≡◌, ℕ, zero, suc, Bool, true, false, cond, eqb, List, [], ◌∷◌, ◌++◌, map, sym, refl, ap, ◌∙◌}
+use Rattle.std.proofs.Common.{◌≡◌, ℕ, suc, Bool, true, false, cond, eqb, List, [], ◌∷◌, ◌++◌, map, refl, ap, ◌∙◌}
 use Rattle.theory.specs.Semiring.{Ops, Laws}
 use Rattle.theory.specs.Sums.{over, kept, cell, down, cells}
 use Rattle.theory.specs.Walk.{stepped}

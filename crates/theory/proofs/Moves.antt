@@ -1,8 +1,7 @@
 -- The two moves rise and stay. Assumes nothing.
-use Rattle.std.proofs.Common.{ℕ, zero, suc, ◌+◌, ◌-◌, ◌<◌, ◌≤◌, min, Bool, true, false, cond, leb, arith}
+use Rattle.std.proofs.Common.{arith}
 use Rattle.std.proofs.lemmas.Bool.Decides.{nat_tests}
-use Rattle.theory.specs.Walk.{Rising, after, from}
-use Rattle.theory.specs.Theorems.{Fair, MovesFair}
+use Rattle.theory.specs.Theorems.{MovesFair}
 
 pub moves_fair : MovesFair
 moves_fair = (

@@ -1,12 +1,11 @@
 -- The sheet holds the weights of the scenarios. Assumes nothing.
-use Rattle.std.proofs.Common.{◌≡◌, ℕ, zero, suc, ◌<◌, ◌≤◌, Bool, true, false, cond, eqb, leb, List, [], ◌∷◌, ◌++◌, map, sym, refl, ap, ◌∙◌, ap₂, inl, inr, arith}
-use mathlib.Core.Path.{fun_ext}
+use Rattle.std.proofs.Common.{◌≡◌, ℕ, zero, suc, ◌<◌, ◌≤◌, eqb, leb, List, [], ◌∷◌, ◌++◌, map, sym, refl, ap, ◌∙◌, ap₂, inl, inr, arith}
 use Rattle.std.proofs.lemmas.Bool.{cases_eq, eq-eqb, ne_eqb}
 use Rattle.theory.specs.Semiring.{Ops, Laws}
 use Rattle.theory.specs.Sums.{over, kept, flat, weigh, mean, cell, tail, Below, down, cells}
 use Rattle.theory.specs.Walk.{Table, Leg, readings, draws, weight, onward, outcome, scenarios, stepped, next, run, sheet, Stays}
 use Rattle.theory.specs.Theorems.{Pushforward}
-use Rattle.theory.proofs.Sums.{over_same, over_map, nought_sum, nought_product, unit_product, distributes_right, over_flat, over_scaled, over_nought, over_sum, over_swap, over_kept}
+use Rattle.theory.proofs.Sums.{over_same, over_map, nought_sum, distributes_right, over_flat, over_scaled, over_nought, over_sum, over_kept}
 
 eqb_sym : (a b : ℕ) → eqb a b ≡ eqb b a
 eqb_sym a b =

@@ -1,9 +1,9 @@
 -- The rounded walk stays close to the exact one. Assumes nothing.
-use Rattle.std.proofs.Common.{◌≡◌, ℕ, zero, suc, ◌+◌, ◌-◌, ◌*◌, ◌/◌, ◌%◌, ◌^◌, ◌<◌, ◌≤◌, leb, List, [], ◌∷◌, map, length, sym, refl, ap, ◌∙◌, subst, subst₂, add_assoc, mul-le-mul_right, mod-lt, mul_assoc, mul_comm, add-mul, mul-le-mul, add_comm, mul-le-mul_left, one-mul, mul-zero, div-add-mod', zero-add, zero-mul, mul-one, mul-suc, mul-add, arith}
-use Rattle.theory.specs.Semiring.{Ops, Laws}
-use Rattle.theory.specs.Sums.{over, mean, cell, tail, Below, cells, first}
-use Rattle.theory.specs.Walk.{Table, Leg, readings, stepped, next, run, sheet, rest, Rising}
-use Rattle.theory.specs.Rounded.{nat_ops, nat_least, total, totals, up, moved, rounded_start, rounded_next, rounded, SoundLeg, Sound, Close, Rounded}
+use Rattle.std.proofs.Common.{◌≡◌, ℕ, suc, ◌+◌, ◌-◌, ◌*◌, ◌^◌, ◌<◌, ◌≤◌, leb, List, [], ◌∷◌, map, length, sym, ap, ◌∙◌, subst, subst₂, add_assoc, mul-le-mul_right, mod-lt, mul_assoc, mul_comm, add-mul, mul-le-mul, add_comm, mul-le-mul_left, one-mul, div-add-mod', zero-add, zero-mul, mul-one, mul-suc, mul-add, arith}
+use Rattle.theory.specs.Semiring.{Laws}
+use Rattle.theory.specs.Sums.{mean, cell, tail, Below, cells, first}
+use Rattle.theory.specs.Walk.{Table, Leg, readings, next, run, sheet, rest}
+use Rattle.theory.specs.Rounded.{nat_ops, nat_least, total, totals, up, rounded_start, rounded_next, rounded, SoundLeg, Sound, Close, Rounded}
 use Rattle.theory.proofs.Pushed.{below_cells}
 use Rattle.theory.proofs.Tails.{tail_by_times, rest_next, rest_opening}
 

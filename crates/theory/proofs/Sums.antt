@@ -1,8 +1,8 @@
 -- What the laws give of sums over lists. Assumes nothing.
-use Rattle.std.proofs.Common.{◌≡◌, ℕ, zero, suc, ◌<◌, ◌≤◌, Bool, true, false, cond, eqb, leb, List, [], ◌∷◌, ◌++◌, map, sym, refl, ap, ◌∙◌, ap₂}
+use Rattle.std.proofs.Common.{◌≡◌, Bool, true, false, cond, List, [], ◌∷◌, ◌++◌, map, sym, refl, ap, ◌∙◌, ap₂}
 use mathlib.Core.Path.{fun_ext}
 use Rattle.theory.specs.Semiring.{Ops, Laws}
-use Rattle.theory.specs.Sums.{over, kept, flat, weigh, mean, cell, tail, Below, cells}
+use Rattle.theory.specs.Sums.{over, kept, flat, weigh}
 
 pub over_same : {K A : Type 0} (ops : Ops K) (xs : List A) (f g : A → K) → ((x : A) → f x ≡ g x) → over ops xs f ≡ over ops xs g
 over_same ops xs f g e = ap (over ops xs) (fun_ext e)

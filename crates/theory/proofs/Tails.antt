@@ -1,12 +1,11 @@
 -- Tails, and what worse tables do to them. Assumes nothing.
-use Rattle.std.proofs.Common.{◌≡◌, ℕ, zero, suc, ◌+◌, ◌<◌, ◌≤◌, Bool, true, false, cond, eqb, leb, List, [], ◌∷◌, ◌++◌, map, sym, refl, ap, ◌∙◌, subst, ap₂, subst₂, inl, inr, arith}
-use mathlib.Core.Path.{fun_ext}
-use Rattle.std.proofs.lemmas.Bool.{cases_eq, cases_lt, cases_Bool, le-leb, lt-leb, leb-true, both_ways}
+use Rattle.std.proofs.Common.{◌≡◌, ℕ, zero, suc, ◌+◌, ◌<◌, ◌≤◌, Bool, true, false, cond, leb, List, [], ◌∷◌, sym, refl, ap, ◌∙◌, subst, ap₂, subst₂, inl, inr, arith}
+use Rattle.std.proofs.lemmas.Bool.{cases_lt, cases_Bool, le-leb, lt-leb, leb-true, both_ways}
 use Rattle.theory.specs.Semiring.{Ops, Laws}
-use Rattle.theory.specs.Sums.{over, kept, flat, weigh, mean, cell, tail, Below, down, cells, first}
-use Rattle.theory.specs.Walk.{Table, Leg, readings, weight, outcome, scenarios, stepped, next, run, sheet, rest, Stays, Rising, Worse, Harder}
+use Rattle.theory.specs.Sums.{weigh, mean, cell, tail, Below, cells, first}
+use Rattle.theory.specs.Walk.{Table, Leg, readings, weight, outcome, scenarios, stepped, next, run, sheet, rest, Stays, Rising, Harder}
 use Rattle.theory.specs.Theorems.{Late, NeverBetter, NeverLater, NeverLaterTold}
-use Rattle.theory.proofs.Sums.{over_same, over_map, nought_product, product_left_comm, over_scaled, over_nought, over_swap, over_kept, over_least}
+use Rattle.theory.proofs.Sums.{over_same, nought_product, product_left_comm, over_scaled, over_nought, over_swap, over_kept}
 use Rattle.theory.proofs.Pushed.{below_more, below_readings, below_stepped, below_cells, tail_mean, mean_stepped, mean_gathered, sheet_mean, drawn_outcome}
 
 -- p goes on holding, below n

@@ -1,5 +1,5 @@
 -- The semiring of the whole numbers, and the walk whose tails are divided and rounded up. Assumes nothing.
-use Rattle.std.specs.Prelude.{◌≡◌, ℕ, zero, suc, ◌+◌, ◌-◌, ◌*◌, ◌/◌, ◌^◌, ◌<◌, ◌≤◌, false, List, [], ◌∷◌, map, length, nat_le}
+use Rattle.std.specs.Prelude.{◌≡◌, ℕ, suc, ◌+◌, ◌-◌, ◌*◌, ◌/◌, ◌^◌, ◌<◌, ◌≤◌, false, List, [], ◌∷◌, map, length, nat_le}
 use Rattle.theory.specs.Semiring.{Ops}
 use Rattle.theory.specs.Sums.{over, mean, tail, Below, first}
 use Rattle.theory.specs.Walk.{Table, Leg, readings, sheet, rest, next, Rising}

@@ -1,5 +1,5 @@
 -- Sums over lists, and spreads: lists of (state, weight), read as finite formal sums. Assumes nothing.
-use Rattle.std.specs.Prelude.{ℕ, zero, suc, ◌<◌, Bool, true, false, cond, List, [], ◌∷◌, ◌++◌, map, nat_eq, nat_le}
+use Rattle.std.specs.Prelude.{ℕ, zero, suc, ◌<◌, Bool, cond, List, [], ◌∷◌, ◌++◌, map, nat_eq, nat_le}
 use Rattle.theory.specs.Semiring.{Ops}
 
 -- the sum of f over a list

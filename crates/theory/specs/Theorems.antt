@@ -1,7 +1,7 @@
 -- The theorems. Assumes nothing.
-use Rattle.std.specs.Prelude.{◌≡◌, ℕ, zero, suc, ◌+◌, ◌<◌, ◌≤◌, List, [], ◌∷◌, ◌++◌, map, nat_eq, nat_le}
+use Rattle.std.specs.Prelude.{◌≡◌, ℕ, ◌+◌, ◌<◌, List, nat_eq, nat_le}
 use Rattle.theory.specs.Semiring.{Ops}
-use Rattle.theory.specs.Sums.{over, kept, tail, Below, cells}
+use Rattle.theory.specs.Sums.{over, kept, Below}
 use Rattle.theory.specs.Walk.{Table, Leg, scenarios, outcome, weight, sheet, run, rest, Stays, Worse, Harder, Rising, after, from}
 
 -- Each cell holds the weights of exactly the scenarios that end there.

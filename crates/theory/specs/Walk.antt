@@ -1,7 +1,7 @@
 -- Tables, legs, scenarios, and the sheet that is computed leg by leg. Assumes nothing.
-use Rattle.std.specs.Prelude.{◌≡◌, ℕ, zero, suc, ◌+◌, ◌-◌, ◌<◌, ◌≤◌, min, cond, List, [], ◌∷◌, ◌++◌, map, nat_le}
+use Rattle.std.specs.Prelude.{◌≡◌, ℕ, ◌+◌, ◌-◌, ◌<◌, ◌≤◌, min, cond, List, [], ◌∷◌, map, nat_le}
 use Rattle.theory.specs.Semiring.{Ops}
-use Rattle.theory.specs.Sums.{over, kept, flat, mean, cell, tail, Below, cells}
+use Rattle.theory.specs.Sums.{flat, cell, tail, Below, cells}
 
 -- (time, weight) pairs
 abbrev pub Table : Type 0

@@ -1,4 +1,6 @@
 //! Weights with their laws, and the theorems on walks that hold of every kind of weight.
+#![tactic(auto)]
+
 mod theorems;
 mod weight;
 

@@ -1,4 +1,4 @@
-use Rattle.std.proofs.Common.{◌≡◌, ap, ◌∙◌, arith}
+use Rattle.std.proofs.Common.{ap, ◌∙◌, arith}
 use Rattle.analysis.specs.Cells.{cells}
 use Rattle.analysis.specs.Inner.{scaled}
 use Rattle.analysis.proofs.Steps.{put, cells_set, added_all}

@@ -1,6 +1,6 @@
 use Rattle.std.proofs.Common.{◌≡◌, ◌-◌, sym, ap, ◌∙◌, arith}
 use Rattle.analysis.specs.Cells.{cells, arriving}
-use Rattle.analysis.specs.Inner.{joint, spreading}
+use Rattle.analysis.specs.Inner.{joint}
 use Rattle.analysis.proofs.Steps.{spread_none, joint_down, joint_below, arriving_same}
 use Rattle.analysis.proofs.adding.spread.Goals as goal
 

@@ -1,4 +1,4 @@
-use Rattle.std.proofs.Common.{◌≡◌, ap, ◌∙◌, arith}
+use Rattle.std.proofs.Common.{ap, ◌∙◌}
 use Rattle.analysis.specs.Cells.{cells, passed}
 use Rattle.analysis.proofs.Steps.{passed_most}
 use Rattle.analysis.proofs.passing.pass.Goals as goal

@@ -1,4 +1,4 @@
-use Rattle.std.proofs.Common.{◌+◌, ◌-◌, ap, ◌∙◌, arith, rules}
+use Rattle.std.proofs.Common.{◌+◌, ◌-◌, ap, ◌∙◌, arith}
 use Rattle.analysis.specs.Cells.{cells, later}
 use Rattle.analysis.proofs.Steps.{put, joint_none, joint_up, cells_set, later_joint, passed_all}
 use Rattle.analysis.proofs.passing.pass_time.Goals as goal

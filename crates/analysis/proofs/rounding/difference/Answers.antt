@@ -1,4 +1,4 @@
-use Rattle.std.proofs.Common.{◌≡◌, ◌-◌, ap, ◌∙◌, arith}
+use Rattle.std.proofs.Common.{◌-◌, ap, ◌∙◌, arith}
 use Rattle.theory.specs.Rounded.{up}
 use Rattle.kinds.specs.Counts.{counted}
 use Rattle.analysis.proofs.rounding.difference.Goals as goal

@@ -1,4 +1,4 @@
-use Rattle.std.proofs.Common.{◌≡◌, ℕ, ◌∙◌, arith}
+use Rattle.std.proofs.Common.{ℕ, ◌∙◌, arith}
 use Rattle.analysis.specs.Cells.{cells}
 use Rattle.analysis.proofs.Steps.{joint_none, joint_up, cleared_all}
 use Rattle.analysis.proofs.tailing.clear_cells.Goals as goal

@@ -1,4 +1,4 @@
-use Rattle.std.proofs.Common.{◌≡◌, get_or, Err, sym, ap, ◌∙◌, subst, arith}
+use Rattle.std.proofs.Common.{◌≡◌, get_or, Err, sym, ap, ◌∙◌, arith}
 use Rattle.book.specs.Drafts.{draft_book}
 use Rattle.book.specs.Refusals.{number}
 use Rattle.planfile.specs.Faults.{told, book_fault}

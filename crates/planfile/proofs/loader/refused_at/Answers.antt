@@ -1,7 +1,6 @@
-use Rattle.std.proofs.Common.{◌≡◌, ℕ, ◌+◌, ◌-◌, true, List, get_or, take, unwrap_or, sym, ap, ◌∙◌, subst, arith}
-use Rattle.planfile.specs.declared.contents.Entry.{Entry}
+use Rattle.std.proofs.Common.{◌≡◌, ◌+◌, ◌-◌, get_or, take, unwrap_or, sym, ap, ◌∙◌, arith}
 use Rattle.planfile.specs.Contents.{blank}
-use Rattle.planfile.specs.Bodies.{wrong_in, within}
+use Rattle.planfile.specs.Bodies.{wrong_in}
 use Rattle.planfile.proofs.Entering.{within_at, within_take, right_more, offset_body, offset_count, offset_pair}
 use Rattle.planfile.proofs.loader.refused_at.Goals as goal
 

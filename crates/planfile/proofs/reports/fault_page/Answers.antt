@@ -1,7 +1,7 @@
-use Rattle.std.proofs.Common.{◌≡◌, ℕ, ◌+◌, ◌≤◌, ◌++◌, length, codes, ap, ◌∙◌, arith}
+use Rattle.std.proofs.Common.{◌≡◌, ◌++◌, codes, ap, ◌∙◌, arith}
 use Rattle.planfile.specs.Faults.{told}
 use Rattle.planfile.specs.Pages.{text}
-use Rattle.planfile.specs.Reports.{line, fault_line}
+use Rattle.planfile.specs.Reports.{line}
 use Rattle.planfile.proofs.Lined.{line_short}
 use Rattle.planfile.proofs.Written.{after}
 use Rattle.planfile.proofs.reports.fault_page.Goals as goal

@@ -1,4 +1,4 @@
-use Rattle.std.proofs.Common.{◌≡◌, ℕ, ◌+◌, ◌*◌, ◌≤◌, ◌++◌, length, get_or, None, sym, ap, ◌∙◌, arith}
+use Rattle.std.proofs.Common.{◌≡◌, ◌++◌, length, get_or, None, sym, ap, ◌∙◌, arith}
 use Rattle.book.specs.Drafts.{plan_book}
 use Rattle.planfile.specs.Pages.{text}
 use Rattle.planfile.specs.Reports.{header, place_line}

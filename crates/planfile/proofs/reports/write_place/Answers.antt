@@ -1,4 +1,4 @@
-use Rattle.std.proofs.Common.{◌≡◌, ℕ, ◌+◌, ◌≤◌, ◌++◌, length, get_or, None, Ok, Err, sym, ap, ◌∙◌, arith}
+use Rattle.std.proofs.Common.{◌++◌, length, get_or, None, Ok, Err, ap, ◌∙◌, arith}
 use Rattle.book.specs.Drafts.{plan_book}
 use Rattle.board.specs.Places.{entry_of}
 use Rattle.book.specs.Refusals.{number}

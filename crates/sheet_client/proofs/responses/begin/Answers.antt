@@ -1,4 +1,4 @@
-use Rattle.std.proofs.Common.{◌≡◌, ◌≤◌, length, ◌∙◌, ap₂, arith}
+use Rattle.std.proofs.Common.{◌∙◌, ap₂, arith}
 use Rattle.sheet_client.specs.Responses.{begun}
 use Rattle.analysis.proofs.Steps.{put, cells_set}
 use Rattle.sheet_client.proofs.responses.begin.Goals as goal

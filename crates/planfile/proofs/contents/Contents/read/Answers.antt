@@ -1,11 +1,9 @@
-use Rattle.std.proofs.Common.{◌≡◌, ℕ, ◌+◌, ◌-◌, ◌*◌, ◌<◌, ◌≤◌, true, false, cond, List, [], length, take, drop, Some, None, sym, refl, ap, ◌∙◌, subst, arith}
+use Rattle.std.proofs.Common.{◌≡◌, ◌+◌, ◌-◌, ◌*◌, ◌<◌, ◌≤◌, true, length, take, drop, Some, sym, ap, ◌∙◌, subst, arith}
 use Rattle.std.proofs.lemmas.List.{length-set, take_all, at_drop_all}
 use Rattle.std.proofs.lemmas.Result.{err_from_is_err_and}
 use Rattle.std.proofs.lemmas.Bool.{cond-true, cond-false, and_parts, leb-true}
-use Rattle.planfile.specs.declared.contents.Entry.{Entry}
-use Rattle.planfile.specs.Faults.{told, file_fault}
 use Rattle.planfile.specs.Fields.{byte}
-use Rattle.planfile.specs.Contents.{entry, contents, contents_fit, contents_end, contents_fault, entries_fault, last_end, body_end}
+use Rattle.planfile.specs.Contents.{entry, contents, contents_fit, contents_fault, entries_fault, last_end, body_end}
 use Rattle.planfile.proofs.Listed.{length_contents, stops, goes, end_goes, held_goes}
 use Rattle.planfile.proofs.contents.Contents.read.Goals as goal
 

@@ -1,4 +1,4 @@
-use Rattle.std.proofs.Common.{ℕ, ◌+◌, ◌≤◌, arith}
+use Rattle.std.proofs.Common.{arith}
 use Rattle.planfile.specs.Pages.{text}
 use Rattle.planfile.specs.Reports.{field}
 use Rattle.planfile.proofs.Written.{field_short, after, joined_three}

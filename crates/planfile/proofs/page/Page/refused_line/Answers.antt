@@ -1,4 +1,4 @@
-use Rattle.std.proofs.Common.{ℕ, ◌+◌, ◌≤◌, codes, arith, lit≤}
+use Rattle.std.proofs.Common.{codes, arith, lit≤}
 use Rattle.planfile.specs.Pages.{text}
 use Rattle.planfile.specs.Reports.{field}
 use Rattle.planfile.proofs.Written.{field_short, after, joined_three}

@@ -1,6 +1,5 @@
-use Rattle.std.proofs.Common.{ℕ, ◌-◌, ◌*◌, ◌/◌, ◌≤◌, refl, ap, subst, arith}
+use Rattle.std.proofs.Common.{ℕ, ◌*◌, ◌/◌, ◌≤◌, refl, ap, subst, arith}
 use Rattle.book.specs.Drafts.{plan_book}
-use Rattle.board.specs.Model.{window}
 use Rattle.board.specs.Places.{entry_of}
 use Rattle.book.proofs.Plans.{given_entry, given_sized}
 use Rattle.book.proofs.Rounds.{round_inside, round_outside, task_outside}
