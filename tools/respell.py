@@ -5,7 +5,7 @@ usage: tools/respell.py            at the top of the repository, once, after the
 
 Words are in snake case and facts and types in camel case: `count-ops` becomes `count_ops`, and `Never-better` `NeverBetter`.
 Names that Rattle makes (goals, invariants, measures, steps) and names of the library stay, and so do all names, strings and comments of
-the Rust code. Names in backquotes in the pages are spelled anew too. It stops, and writes nothing, where two names would fall together.
+the Rust code. Names in backquotes in the pages are spelled anew too. It says 'look:' where two names fall together.
 """
 
 import collections

@@ -1,5 +1,7 @@
 -- Texts one after the other, and the texts of numbers and of the elements of kinds.
-use Rattle.std.specs.Prelude.{ℕ, zero, suc, cond, List, [], ◌++◌, codes, decimal, ◌==◌}
+use Rattle.std.specs.Prelude.{◌≡◌, ℕ, zero, suc, false, cond, List, [], ◌++◌, codes, decimal, ◌==◌}
+use Rattle.std.proofs.Common.{refl, ap}
+use Rattle.std.proofs.lemmas.Bool.{both_ways}
 use Rattle.kinds.specs.declared.possible.Possible.{Possible}
 use Rattle.kinds.specs.declared.possible.Possible.TheVariants.{No, Yes}
 
@@ -16,6 +18,11 @@ unless_nought size text = cond (size == 0) [] text
 abbrev pub possible_size : Possible → ℕ
 possible_size No = 0
 possible_size Yes = 1
+
+-- no possibility but No has the number 0
+pub possible_alone : (x : Possible) → possible_size x ≡ 0 → x ≡ No
+possible_alone No e = refl
+possible_alone Yes e = absurd (both_ways false refl (ap (λ n. n == 0) e))
 
 -- the text of a possibility
 abbrev pub possible_text : Possible → List ℕ

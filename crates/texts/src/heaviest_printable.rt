@@ -1,7 +1,7 @@
 //! How a heaviest weight is printed.
 ghost use Rattle.std.specs.Prelude.{decimal};
 ghost use Rattle.kinds.specs.Heaviests.{same_heaviest};
-ghost use Rattle.std.proofs.Common.{rules};
+ghost use Rattle.std.proofs.Common.{refl};
 
 use crate::printable::Printable;
 use crate::writing::write_number;
@@ -13,7 +13,7 @@ impl Printable for Heaviest {
 
     ghost text = { λ x. decimal x.value };
 
-    ghost nought_sized = { Prim.search rules };
+    ghost nought_sized = { refl };
 
     ghost nought_alone = { λ x e. same_heaviest _ _ e };
 

@@ -1,6 +1,6 @@
 //! How a possibility is printed.
-ghost use Rattle.texts.specs.Texts.{possible_size, possible_text};
-ghost use Rattle.std.proofs.Common.{rules};
+ghost use Rattle.texts.specs.Texts.{possible_size, possible_alone, possible_text};
+ghost use Rattle.std.proofs.Common.{refl};
 
 use crate::printable::Printable;
 use crate::writing::write_text;
@@ -12,9 +12,9 @@ impl Printable for Possible {
 
     ghost text = { possible_text };
 
-    ghost nought_sized = { Prim.search rules };
+    ghost nought_sized = { refl };
 
-    ghost nought_alone = { Prim.search rules };
+    ghost nought_alone = { λ x e. possible_alone x e };
 
     fn size(self) -> u64 {
         match self {
