@@ -3,10 +3,9 @@ use Rattle.std.proofs.Common.{◌≡◌, ℕ, ◌+◌, ◌-◌, ◌<◌, ◌≤�
 use Rattle.std.proofs.lemmas.Bool.{cases_order, cond-true, cond-false, lt-ltb, le-ltb, eq-eqb, ne_eqb}
 use Rattle.theory.specs.Rounded.{up}
 use Rattle.analysis.specs.Cells.{tail, tailed}
-use Rattle.kinds.specs.Counts.{counted, count_ops}
+use Rattle.kinds.specs.Counts.{Count, counted, count_ops}
 use Rattle.analysis.specs.Inner.{joint}
 use Rattle.analysis.specs.Rounding.{lessened, rounded_off}
-use Rattle.kinds.specs.declared.count.Count.{Count}
 use Rattle.analysis.proofs.Steps.{put, same_cells}
 
 tailed_at : (h : ℕ → Count) (k : ℕ) → k < 257 → tailed count_ops h k ≡ tail count_ops h k

@@ -3,11 +3,10 @@ use Rattle.std.proofs.Common.{◌≡◌, ℕ, zero, suc, ◌+◌, ◌-◌, ◌*�
 use Rattle.std.proofs.lemmas.Bool.{cases_lt}
 use Rattle.theory.specs.Rounded.{up}
 use Rattle.analysis.specs.Cells.{span, tail, passed, total, added}
-use Rattle.kinds.specs.Counts.{count_ops, count_laws}
+use Rattle.kinds.specs.Counts.{Count, count_ops, count_laws}
 use Rattle.analysis.specs.Kept.{RoundingDivides}
 use Rattle.analysis.specs.Rounding.{rounded_off}
 use Rattle.kinds.specs.Stopped.{stop}
-use Rattle.kinds.specs.declared.count.Count.{Count}
 use Rattle.analysis.specs.declared.pair.Pair.{Pair}
 use Rattle.analysis.proofs.Steps.{tail_step}
 use Rattle.analysis.proofs.Differences.{rounded_at}

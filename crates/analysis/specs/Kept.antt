@@ -3,9 +3,8 @@ use Rattle.std.specs.Prelude.{◌≡◌, ℕ, ◌≤◌, List}
 use Rattle.theory.specs.Semiring.{Ops}
 use Rattle.theory.specs.Rounded.{up}
 use Rattle.analysis.specs.Cells.{tail, passed, total, added}
-use Rattle.kinds.specs.Counts.{count_ops}
+use Rattle.kinds.specs.Counts.{Count, count_ops}
 use Rattle.analysis.specs.Rounding.{rounded_off}
-use Rattle.kinds.specs.declared.count.Count.{Count}
 use Rattle.analysis.specs.declared.pair.Pair.{Pair}
 
 abbrev pub PassingKeeps : {K : Type 0} → Ops K → Type 0

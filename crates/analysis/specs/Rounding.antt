@@ -1,9 +1,8 @@
 -- A sheet of counts whose tails are divided and rounded up: each cell is the difference of its rounded tail and the next. Assumes nothing.
 use Rattle.std.specs.Prelude.{ℕ, ◌+◌, ◌-◌, cond, nat_lt}
 use Rattle.theory.specs.Rounded.{up}
-use Rattle.kinds.specs.Counts.{counted, count_ops}
+use Rattle.kinds.specs.Counts.{Count, counted, count_ops}
 use Rattle.analysis.specs.Cells.{tail}
-use Rattle.kinds.specs.declared.count.Count.{Count}
 
 -- the difference of two neighbours, each divided and rounded up
 abbrev pub lessened : ℕ → (ℕ → Count) → ℕ → Count

@@ -3,8 +3,7 @@ use Rattle.std.proofs.Common.{◌≡◌, ℕ, ◌+◌, ◌-◌, ◌*◌, ◌<◌
 use Rattle.std.proofs.lemmas.Bool.{cases_lt, cases_Bool, lt-ltb, le-ltb}
 use Rattle.theory.specs.Semiring.{Ops}
 use Rattle.analysis.specs.declared.pair.Pair.{Pair}
-use Rattle.kinds.specs.declared.count.Count.{Count}
-use Rattle.kinds.specs.Counts.{count_ops, counted as count_of}
+use Rattle.kinds.specs.Counts.{Count, count_ops, counted as count_of}
 use Rattle.scenarios.specs.Walks.{lone, settled}
 use Rattle.analysis.specs.Cells.{span, tail, total, passed, added, over, first, fresh, beyond}
 use Rattle.analysis.proofs.Steps.{same_cells}

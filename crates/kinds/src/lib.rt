@@ -1,14 +1,13 @@
 //! The weight kinds that are built: counts, possible and heaviest.
 #![tactic(auto)]
 
-mod count;
-mod count_weight;
-mod heaviest;
-mod heaviest_weight;
 mod possible;
 mod possible_weight;
+mod stopped;
+mod stopped_weight;
+mod summing;
 
-pub use count::Count;
-pub use heaviest::Heaviest;
 pub use possible::Possible;
+pub use stopped::{Count, Heaviest, Stopped};
+pub use summing::{Addition, Maximum, Summing};
 pub use theory::Weight;

@@ -19,17 +19,11 @@ impl Weight for Possible {
     }
 
     fn sum(self, other: Possible) -> Possible {
-        match self {
-            Possible::Yes => Possible::Yes,
-            Possible::No => other,
-        }
+        self.max(other)
     }
 
     fn product(self, other: Possible) -> Possible {
-        match self {
-            Possible::Yes => other,
-            Possible::No => Possible::No,
-        }
+        self.min(other)
     }
 
     fn read(_weight: u32) -> Possible {

@@ -4,9 +4,8 @@ use Rattle.theory.specs.Sums.{over, kept, mean, tail}
 use Rattle.theory.specs.Walk.{Table, readings, Worse}
 use Rattle.theory.specs.Rounded.{nat_ops, nat_least, total}
 use Rattle.analysis.specs.Cells.{total as total_of}
-use Rattle.kinds.specs.Counts.{count_ops, count_least, count_laws, counted}
+use Rattle.kinds.specs.Counts.{Count, count_ops, count_least, count_laws, counted}
 use Rattle.kinds.specs.Stopped.{stop, stop_mul}
-use Rattle.kinds.specs.declared.count.Count.{Count}
 use Rattle.analysis.specs.declared.pair.Pair.{Pair}
 use Rattle.analysis.proofs.Totals.{over_cons}
 use Rattle.scenarios.specs.Questions.{Counted, Question, drawn_from, upto}

@@ -12,9 +12,8 @@ use Rattle.theory.proofs.Pushed.{below_cells, below_readings, tail_mean, mean_st
 use Rattle.theory.proofs.Tails.{mean_same, rest_next, tail_by_times}
 use Rattle.theory.proofs.Moves.{moves_fair}
 use Rattle.analysis.specs.Cells.{tail, added}
-use Rattle.kinds.specs.Counts.{count_ops, count_laws, counted}
+use Rattle.kinds.specs.Counts.{Count, count_ops, count_laws, counted}
 use Rattle.kinds.specs.Stopped.{stop}
-use Rattle.kinds.specs.declared.count.Count.{Count}
 use Rattle.analysis.specs.declared.pair.Pair.{Pair}
 use Rattle.analysis.proofs.Kept.{tail_bound, rounding_divides}
 use Rattle.analysis.proofs.Quotients.{up_most}

@@ -4,8 +4,7 @@ use Rattle.theory.specs.Walk.{Leg, after, from}
 use Rattle.theory.specs.Rounded.{rounded_start, rounded_next, rounded}
 use Rattle.theory.proofs.Moves.{moves_fair}
 use Rattle.analysis.specs.Cells.{passed, added}
-use Rattle.kinds.specs.Counts.{count_ops, count_laws, counted}
-use Rattle.kinds.specs.declared.count.Count.{Count}
+use Rattle.kinds.specs.Counts.{Count, count_ops, count_laws, counted}
 use Rattle.scenarios.specs.Questions.{Counted, Question, upto, drawn_from}
 use Rattle.scenarios.specs.Walks.{lone, settled, walked_upto, walked_later, walked, rounded_sheet, legs_upto, legs_later, legs}
 use Rattle.scenarios.specs.Theorems.{AllFit, AllBefore, Sound}

@@ -3,8 +3,7 @@ use Rattle.std.specs.Prelude.{ℕ, ◌+◌, ◌-◌, cond, List, [], ◌∷◌, 
 use Rattle.theory.specs.Semiring.{Ops}
 use Rattle.theory.specs.Walk.{Leg, after, from}
 use Rattle.analysis.specs.declared.pair.Pair.{Pair}
-use Rattle.kinds.specs.declared.count.Count.{Count}
-use Rattle.kinds.specs.Counts.{count_ops, counted as count_of}
+use Rattle.kinds.specs.Counts.{Count, count_ops, counted as count_of}
 use Rattle.analysis.specs.Cells.{tail, total, passed, added}
 use Rattle.analysis.specs.Rounding.{rounded_off}
 use Rattle.scenarios.specs.Questions.{Counted, Question, upto, drawn_from}

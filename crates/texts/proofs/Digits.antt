@@ -1,15 +1,7 @@
 -- The digits of a number, the last one after the others.
-use Rattle.std.proofs.Common.{◌≡◌, ℕ, ◌+◌, ◌/◌, ◌%◌, ◌^◌, ◌<◌, ◌≤◌, List, [], ◌∷◌, ◌++◌, length, decimal, sym, ap, ◌∙◌, mod-eq_of_lt, arith}
+use Rattle.std.proofs.Common.{◌≡◌, ℕ, ◌+◌, ◌/◌, ◌%◌, ◌^◌, ◌<◌, ◌≤◌, length, decimal, ap, ◌∙◌, arith}
 use Rattle.std.proofs.lemmas.Fmt.{decimal_step, decimal_digit, length-decimal-le}
-use Rattle.std.proofs.lemmas.List.{append_assoc, length_push}
-
-pub decimal_more : (t : List ℕ) (n : ℕ) → 10 ≤ n → n < 2 ^ 64 → (t ++ decimal (n / 10)) ++ (48 + n % 10) ∷ [] ≡ t ++ decimal n
-decimal_more t n l fits = append_assoc t (decimal (n / 10)) ((48 + n % 10) ∷ []) ∙ ap (λ d. t ++ d) (sym (decimal_step n l fits))
-
-pub decimal_one : (t : List ℕ) (n : ℕ) → n < 10 → t ++ (48 + n % 10) ∷ [] ≡ t ++ decimal n
-decimal_one t n l =
-    let e : n % 10 ≡ n = mod-eq_of_lt l in
-    ap (λ k. t ++ (48 + k) ∷ []) e ∙ ap (λ d. t ++ d) (sym (decimal_digit n l))
+use Rattle.std.proofs.lemmas.List.{length_push}
 
 -- a number below ten has one digit
 pub digits_one : (n : ℕ) → n < 10 → length (decimal n) ≡ 1

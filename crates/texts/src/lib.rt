@@ -1,10 +1,9 @@
 //! Texts as bytes: numbers in decimal, and the elements of the kinds.
 #![tactic(auto)]
 
-mod count_printable;
-mod heaviest_printable;
 mod possible_printable;
 mod printable;
+mod stopped_printable;
 mod writing;
 
 pub use printable::Printable;

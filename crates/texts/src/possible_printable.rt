@@ -17,10 +17,7 @@ impl Printable for Possible {
     ghost nought_alone = { λ x e. possible_alone x e };
 
     fn size(self) -> u64 {
-        match self {
-            Possible::No => 0,
-            Possible::Yes => 1,
-        }
+        self as u64
     }
 
     fn write(self, out: &mut Vec<u8>) -> Result<(), AllocError> {

@@ -8,19 +8,15 @@ use std::alloc::AllocError;
 pub fn write_text(text: &[u8], out: &mut Vec<u8>) -> Result<(), AllocError>
     ensures { OnOk result (out.new.items ≡ out.old.items ++ text.now) }
 {
-    out.extend_from_slice(text)?;
-    Ok(())
+    out.extend_from_slice(text)
 }
 
 /// Writes a number in decimal, without leading noughts.
 pub fn write_number(n: u64, out: &mut Vec<u8>) -> Result<(), AllocError>
     ensures { OnOk result (out.new.items ≡ out.old.items ++ decimal n) }
 {
-    if n >= 10 {
-        write_number(n / 10, out)?;
-    }
-    out.push(b'0' + (n % 10) as u8)?;
-    Ok(())
+    let text = n.to_string(*out.allocator())?;
+    write_text(text.as_bytes(), out)
 }
 
 /// Writes a label and a number.
@@ -28,8 +24,7 @@ pub fn write_field(label: &[u8], n: u64, out: &mut Vec<u8>) -> Result<(), AllocE
     ensures { OnOk result (out.new.items ≡ out.old.items ++ field label.now n) }
 {
     write_text(label, out)?;
-    write_number(n, out)?;
-    Ok(())
+    write_number(n, out)
 }
 
 /// Writes a label and the number that ends a line.
@@ -37,6 +32,5 @@ pub fn write_ending(label: &[u8], n: u64, out: &mut Vec<u8>) -> Result<(), Alloc
     ensures { OnOk result (out.new.items ≡ out.old.items ++ ending label.now n) }
 {
     write_field(label, n, out)?;
-    write_text(b"\n", out)?;
-    Ok(())
+    write_text(b"\n", out)
 }

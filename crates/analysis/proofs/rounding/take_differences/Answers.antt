@@ -2,10 +2,9 @@ use Rattle.std.proofs.Common.{◌≡◌, ◌+◌, ◌-◌, ap, ◌∙◌, ap₂,
 use Rattle.std.proofs.lemmas.List.{get_or_read}
 use Rattle.theory.specs.Rounded.{up}
 use Rattle.analysis.specs.Cells.{cells}
-use Rattle.kinds.specs.Counts.{counted, count_ops}
+use Rattle.kinds.specs.Counts.{Count, counted, count_ops}
 use Rattle.analysis.specs.Inner.{joint}
 use Rattle.analysis.specs.Rounding.{lessened}
-use Rattle.kinds.specs.declared.count.Count.{Count}
 use Rattle.analysis.proofs.Steps.{joint_none, joint_up, joint_above}
 use Rattle.analysis.proofs.rounding.take_differences.Goals as goal
 

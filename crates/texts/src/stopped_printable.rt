@@ -1,21 +1,21 @@
-//! How a count is printed.
+//! How a count and a heaviest weight are printed.
 ghost use Rattle.std.specs.Prelude.{decimal};
-ghost use Rattle.kinds.specs.Counts.{same_count};
+ghost use Rattle.kinds.specs.StoppedWeight.{same_stopped};
 ghost use Rattle.std.proofs.Common.{refl};
 
 use crate::printable::Printable;
 use crate::writing::write_number;
-use analysis::Count;
+use kinds::{Stopped, Summing};
 use std::alloc::AllocError;
 
-impl Printable for Count {
+impl<S: Summing> Printable for Stopped<S> {
     ghost size = { λ x. x.value };
 
     ghost text = { λ x. decimal x.value };
 
     ghost nought_sized = { refl };
 
-    ghost nought_alone = { λ x e. same_count _ _ e };
+    ghost nought_alone = { λ x e. same_stopped _ _ e };
 
     fn size(self) -> u64 {
         self.value()
