@@ -1,6 +1,7 @@
 -- Division that rounds up. Assumes nothing.
 use Rattle.std.proofs.Common.{◌≡◌, ℕ, ◌+◌, ◌-◌, ◌*◌, ◌/◌, ◌%◌, ◌<◌, ◌≤◌, ◌⊎◌, ap, ◌∙◌, inl, inr, mod-lt, div-lt_iff_lt-mul, add-mul, mul-le-mul_left, div-add-mod', arith}
 use native.Mathlib.Nat.{div-zero, div-eq_of_lt}
+use Rattle.std.specs.Int.{div_ceil}
 use Rattle.std.proofs.lemmas.Nat.{div-mul-add}
 use Rattle.std.proofs.lemmas.Bool.{cases_lt}
 use Rattle.theory.proofs.Cells.{up_falls as up_rises}
@@ -21,6 +22,14 @@ unfolding up
 up_uneven a d p l =
     let s : a + (d - 1) ≡ (a / d + 1) * d + (a % d - 1) = omega (arith, div-add-mod' a d, add-mul (a / d) 1 d) in
     ap (λ n. n / d) s ∙ div-mul-add (a / d + 1) d (a % d - 1) (omega (arith, mod-lt a p))
+
+up_ceil_at : (a d : ℕ) → 0 < d → (a % d < 1) ⊎ (1 ≤ a % d) → up a d ≡ div_ceil a d
+up_ceil_at a d p (inl z) = let none : a / d ≡ div_ceil a d = omega arith in up_even a d p (omega arith) ∙ none
+up_ceil_at a d p (inr l) = let one : a / d + 1 ≡ div_ceil a d = omega arith in up_uneven a d p l ∙ one
+
+-- the library's `div_ceil`
+pub up_ceil : (a d : ℕ) → 0 < d → up a d ≡ div_ceil a d
+up_ceil a d p = up_ceil_at a d p (cases_lt (a % d) 1)
 
 up_nought_at : (d : ℕ) → (d < 1) ⊎ (1 ≤ d) → up 0 d ≡ 0
 unfolding up

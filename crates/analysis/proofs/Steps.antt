@@ -1,13 +1,13 @@
 -- The steps of the loops over a sheet or a table. Assumes nothing.
-use Rattle.std.proofs.Common.{◌≡◌, ℕ, zero, suc, ◌+◌, ◌-◌, ◌<◌, ◌≤◌, min, cond, eqb, ltb, leb, ◌⊎◌, List, length, get_or, take, set, sym, ap, ◌∙◌, inl, inr, add-zero, add_assoc, add-suc, arith}
+use Rattle.std.proofs.Common.{◌≡◌, ℕ, zero, suc, ◌+◌, ◌-◌, ◌<◌, ◌≤◌, cond, eqb, leb, ◌⊎◌, List, length, get_or, take, take_all, set, sym, refl, ap, ◌∙◌, inl, inr, add-zero, add_assoc, add-suc, arith}
 use Rattle.std.proofs.lemmas.List.{get_or-set_same, get_or-set_other}
-use Rattle.std.proofs.lemmas.Bool.{cases_eq, cond-true, lt-ltb}
+use Rattle.std.proofs.lemmas.Bool.{cases_eq}
 use Rattle.std.proofs.lemmas.Bool.Decides.{nat_tests}
 use Rattle.std.proofs.lemmas.List.Sums.{fold_more}
 use Rattle.theory.specs.Semiring.{Ops, Laws}
 use Rattle.analysis.specs.declared.pair.Pair.{Pair}
-use Rattle.analysis.specs.Cells.{cells, span, tail, over, later, passed, total, arriving, beyond, added, tailed, cleared}
-use Rattle.analysis.specs.Inner.{joint, spreading, scaled}
+use Rattle.analysis.specs.Cells.{cells, span, tail, over, arriving}
+use Rattle.analysis.specs.Inner.{joint, tails_to}
 
 module _ {K : Type 0} (o : Ops K) where
   -- one cell more
@@ -20,6 +20,19 @@ module _ {K : Type 0} (o : Ops K) where
   -- one element more
   pub over_more : {X : Type 0} (h : X → K) (xs : List X) (i : ℕ) (d : X) → i < length xs → over o h (take (i + 1) xs) ≡ o.sum (over o h (take i xs)) (h (get_or xs i d))
   over_more h xs i d = fold_more (λ a x. o.sum a (h x)) o.nought xs i d
+
+module _ {K : Type 0} (o : Ops K) where
+  over_span_to : (xs : List K) (n : ℕ) → n ≤ length xs → over o (λ x. x) (take n xs) ≡ span o (cells o xs) 0 n
+  over_span_to xs zero l = refl
+  over_span_to xs (suc n) l =
+      let more : suc n ≡ n + 1 = omega arith in
+      ap (λ m. over o (λ x. x) (take m xs)) more ∙ over_more o (λ x. x) xs n o.nought (omega arith)
+      ∙ ap (λ v. o.sum v (cells o xs n)) (over_span_to xs n (omega arith))
+      ∙ ap (λ k. o.sum (span o (cells o xs) 0 n) (cells o xs k)) (let at : n ≡ 0 + n = omega arith in at)
+
+  -- the sum of all elements, by their places
+  pub over_span : (xs : List K) → over o (λ x. x) xs ≡ span o (cells o xs) 0 (length xs)
+  over_span xs = sym (ap (over o (λ x. x)) (take_all (length xs) xs (omega arith))) ∙ over_span_to xs (length xs) (omega arith)
 
 -- f with y at the place i
 abbrev pub put : {K : Type 0} → (ℕ → K) → ℕ → K → ℕ → K
@@ -60,24 +73,6 @@ module _ {K : Type 0} where
     pub joint_down : (f h : ℕ → K) (xs : List K) (i : ℕ) (y : K) → 0 < i → i ≤ length xs → cells o xs ≡ joint f h i → y ≡ h (i - 1) → cells o (set xs (i - 1) y) ≡ joint f h (i - 1)
     joint_down f h xs i y p l e r = cells_set xs (i - 1) y (omega arith) ∙ ap (λ c. put c (i - 1) y) e ∙ same_cells (put_down f h i y p r)
 
-    -- what a pass reads, it has not written yet
-    pub later_joint : (g : ℕ) (f h : ℕ → K) (x : ℕ) → later o g (joint f h x) x ≡ later o g h x
-    later_joint g f h x = ap (λ v. cond (ltb (x + g) 256) v o.nought) (joint_above f h x (x + g) (omega arith))
-
-    pub passed_all : (g : ℕ) (h : ℕ → K) (x n : ℕ) (y : K) → x ≡ 256 → g ≤ 255 → n ≡ g + 1 → y ≡ span o h 0 n → put (joint (later o g h) h x) 0 y ≡ passed o g h
-    unfolding passed
-    passed_all g h x n y all most long e =
-        let m : n ≡ min g 255 + 1 = omega arith in
-        let e' : y ≡ span o h 0 (min g 255 + 1) = e ∙ ap (span o h 0) m in
-        same_cells (λ k. grind (arith, nat_tests))
-
-    -- once 255 ticks have passed, more make no difference
-    pub passed_most : (g : ℕ) (h : ℕ → K) → passed o (min g 255) h ≡ passed o g h
-    unfolding passed
-    passed_most g h =
-        let m : min (min g 255) 255 ≡ min g 255 = omega arith in
-        same_cells (λ k. ap (λ n. cond (ltb k 256) (cond (eqb k 0) (span o h 0 (n + 1)) (later o (min g 255) h k)) (h k)) m ∙ grind (arith, nat_tests))
-
     -- what stands at the time x and below decides what comes to x
     pub arriving_same : (low : ℕ) (f h : ℕ → K) (table : List Pair) (x : ℕ) → ((k : ℕ) → k ≤ x → f k ≡ h k) → arriving o low f table x ≡ arriving o low h table x
     arriving_same low f h table x e =
@@ -86,13 +81,6 @@ module _ {K : Type 0} where
       where
         share_at : ℕ → ℕ → Pair → K → K
         share_at low x p v = cond (leb (low + p.time) x) (o.product v (o.read p.weight)) o.nought
-
-    pub spread_none : (h new : ℕ → K) → h ≡ joint h (joint new h 256) 256
-    spread_none h new = same_cells (λ k. grind (arith, nat_tests))
-
-    pub added_all : (low : ℕ) (h : ℕ → K) (table : List Pair) (w y : K) → low ≤ 256 → w ≡ total o table → y ≡ beyond o low h table → put (scaled o low w (spreading o low h table)) 256 y ≡ added o low h table
-    unfolding added
-    added_all low h table w y l all past = same_cells (λ k. grind (arith, nat_tests))
 
 module _ {K : Type 0} {o : Ops K} {least : K → K → Type 0} (laws : Laws o least) where
   pub sum_nought_right : (x : K) → o.sum x o.nought ≡ x
@@ -116,22 +104,14 @@ module _ {K : Type 0} {o : Ops K} {least : K → K → Type 0} (laws : Laws o le
   pub tail_step : (f : ℕ → K) (x : ℕ) → x < 257 → tail o f x ≡ o.sum (f x) (tail o f (x + 1))
   tail_step f x l = let e : 257 - x ≡ 1 + (257 - (x + 1)) = omega arith in ap (span o f x) e ∙ span_first f x (257 - (x + 1))
 
-  pub tailed_none : (h : ℕ → K) → h ≡ joint h (tailed o h) 256
-  unfolding tailed
-  tailed_none h = let e : tail o h 256 ≡ h 256 = laws.sum_nought (h 256) in same_cells (λ k. at k (cases_eq k 256) e)
-    where
-      at : (k : ℕ) → (k ≡ 256) ⊎ (k ≡ 256 → ⊥) → tail o h 256 ≡ h 256 → h k ≡ joint h (tailed o h) 256 k
-      at k (inl e) r = rw e (sym r)
-      at k (inr n) r = grind (arith, nat_tests)
-
-  -- one tail more, from the last one down
-  pub tailed_more : (h : ℕ → K) (x : ℕ) → 0 < x → x ≤ 256 → tailed o h (x - 1) ≡ o.sum (h (x - 1)) (tailed o h x)
-  unfolding tailed
-  tailed_more h x p l =
-      cond-true (ltb (x - 1) 257) _ _ (lt-ltb (x - 1) 257 (omega arith)) ∙ tail_step h (x - 1) (omega arith)
-      ∙ ap (o.sum (h (x - 1))) (ap (tail o h) (let e : x - 1 + 1 ≡ x = omega arith in e) ∙ sym (cond-true (ltb x 257) _ _ (lt-ltb x 257 (omega arith))))
+  -- one cell more, from the last one down
+  pub tails_to_more : (f : ℕ → K) (n x : ℕ) → 0 < x → x ≤ n → tails_to o n f (x - 1) ≡ o.sum (f (x - 1)) (tails_to o n f x)
+  tails_to_more f n x p l =
+      let many : n - (x - 1) ≡ 1 + (n - x) = omega arith in
+      let back : x - 1 + 1 ≡ x = omega arith in
+      ap (span o f (x - 1)) many ∙ span_first f (x - 1) (n - x) ∙ ap (λ k. o.sum (f (x - 1)) (span o f k (n - x))) back
 
 module _ {K : Type 0} (o : Ops K) where
-  pub cleared_all : (h : ℕ → K) (x : ℕ) → x ≡ 257 → joint (λ _. o.nought) h x ≡ cleared o h
-  unfolding cleared
-  cleared_all h x e = ap (joint (λ _. o.nought) h) e
+  -- past the last cell there is nothing to sum
+  pub tails_to_past : (f : ℕ → K) (n k : ℕ) → n ≤ k → tails_to o n f k ≡ o.nought
+  tails_to_past f n k l = let none : n - k ≡ 0 = omega arith in ap (span o f k) none

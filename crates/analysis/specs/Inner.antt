@@ -1,7 +1,7 @@
 -- What the inner loops over a sheet leave. Assumes nothing.
-use Rattle.std.specs.Prelude.{ℕ, ◌-◌, cond, List, nat_lt}
+use Rattle.std.specs.Prelude.{ℕ, ◌+◌, ◌-◌, cond, List, nat_lt}
 use Rattle.theory.specs.Semiring.{Ops}
-use Rattle.analysis.specs.Cells.{span, over, first, arriving}
+use Rattle.analysis.specs.Cells.{span, over, first}
 use Rattle.analysis.specs.declared.pair.Pair.{Pair}
 
 -- f below the place i, and h from there on
@@ -16,9 +16,17 @@ excess ops low f p = ops.product (span ops f (first low p.time) (257 - first low
 abbrev pub overdue : {K : Type 0} → Ops K → ℕ → (ℕ → K) → List Pair → K
 overdue ops low f table = over ops (excess ops low f) table
 
--- the times at or above low hold what the table brings to them
-abbrev pub spreading : {K : Type 0} → Ops K → ℕ → (ℕ → K) → List Pair → ℕ → K
-spreading ops low f table = joint f (joint (arriving ops low f table) f 256) low
+-- what one pair brings to the last of n places or past it
+abbrev pub carried_past : {K : Type 0} → Ops K → ℕ → (ℕ → K) → Pair → K
+carried_past ops n f p = ops.product (span ops f (n - (p.time + 1)) (n - (n - (p.time + 1)))) (ops.read p.weight)
+
+-- what a table brings to the last of n places or past it
+abbrev pub overrun_past : {K : Type 0} → Ops K → ℕ → (ℕ → K) → List Pair → K
+overrun_past ops n f table = over ops (carried_past ops n f) table
+
+-- each of n cells holds the sum of the cells from it to the last
+abbrev pub tails_to : {K : Type 0} → Ops K → ℕ → (ℕ → K) → ℕ → K
+tails_to ops n f k = span ops f k (n - k)
 
 -- the cells below low are multiplied
 abbrev pub scaled : {K : Type 0} → Ops K → ℕ → K → (ℕ → K) → ℕ → K

@@ -1,29 +1,39 @@
-ghost use Rattle.std.specs.Prelude.{◌≡◌, ◌-◌, ◌≤◌, length, MatchResult};
+ghost use Rattle.std.specs.Prelude.{◌≡◌, ◌≤◌, length, MatchResult};
 ghost use Rattle.analysis.specs.Cells.{cells, span};
 ghost use Rattle.analysis.specs.Sheets.{RefusedShort};
 
 use super::sheet_refusal::SheetRefusal;
 use theory::Weight;
 
+// The place of the cell that holds what lies beyond the times.
+pub const BEYOND: usize = 256;
+
+// How many cells a sheet has.
+pub const CELLS: usize = 257;
+
 // Refuses a sheet with fewer than 257 cells.
 pub fn long_enough<W: Weight>(sheet: &[W]) -> Result<(), SheetRefusal>
     ensures { MatchResult result (λ _. 257 ≤ length sheet.now) (RefusedShort sheet.now) }
 {
-    if sheet.len() < 257 {
+    if sheet.len() < CELLS {
         Err(SheetRefusal::Short)
     } else {
         Ok(())
     }
 }
 
-// The sum of the cells from `from` to just before `to`.
-pub fn gathered<W: Weight>(sheet: &[W], from: usize, to: usize) -> W
-    requires { (from ≤ to) × (to ≤ length sheet.now) }
-    ensures { result ≡ span W.ops (cells W.ops sheet.now) from (to - from) }
+// The sum of the cells.
+pub fn gathered<W: Weight>(part: &[W]) -> W
+    ensures { result ≡ span W.ops (cells W.ops part.now) 0 (length part.now) }
 {
-    let mut all = W::nought();
-    for x in from..to {
-        all = all.sum(sheet[x]);
+    part.iter().fold(W::nought(), |all, cell| all.sum(*cell))
+}
+
+// Makes each cell nought.
+pub fn erase<W: Weight>(part: &mut [W])
+    ensures { cells W.ops part.new ≡ (λ _. W.ops.nought) }
+{
+    for cell in part.iter_mut() {
+        *cell = W::nought();
     }
-    all
 }

@@ -1,28 +1,20 @@
-ghost use Rattle.std.specs.Prelude.{◌≡◌, ◌≤◌, length};
+ghost use Rattle.std.specs.Prelude.{◌≡◌, length};
 ghost use Rattle.analysis.specs.Cells.{cells, tailed, cleared};
+ghost use Rattle.analysis.specs.Inner.{tails_to};
 ghost use Rattle.analysis.specs.Sheets.{Done};
 
 use super::sheet_refusal::SheetRefusal;
-use super::spans::long_enough;
+use super::spans::{CELLS, erase, long_enough};
 use theory::Weight;
 
-// Makes each cell up to 256 its tail, from the last one down.
-pub fn gather_tails<W: Weight>(sheet: &mut [W])
-    requires { 257 ≤ length sheet.old }
-    ensures { cells W.ops sheet.new ≡ tailed W.ops (cells W.ops sheet.old) }
+// Makes each cell the sum of the cells from it to the last.
+pub fn gather_tails<W: Weight>(part: &mut [W])
+    ensures { cells W.ops part.new ≡ tails_to W.ops (length part.old) (cells W.ops part.old) }
 {
-    for x in (0..256).rev() {
-        sheet[x] = sheet[x].sum(sheet[x + 1]);
-    }
-}
-
-// Makes each cell up to 256 nought.
-fn clear_cells<W: Weight>(sheet: &mut [W])
-    requires { 257 ≤ length sheet.old }
-    ensures { cells W.ops sheet.new ≡ cleared W.ops (cells W.ops sheet.old) }
-{
-    for x in 0..257 {
-        sheet[x] = W::nought();
+    let mut tail = W::nought();
+    for x in (0..part.len()).rev() {
+        tail = part[x].sum(tail);
+        part[x] = tail;
     }
 }
 
@@ -31,7 +23,7 @@ pub fn tails<W: Weight>(sheet: &mut [W]) -> Result<(), SheetRefusal>
     ensures { Done W.ops result sheet.old sheet.new (tailed W.ops) }
 {
     long_enough(sheet)?;
-    gather_tails(sheet);
+    gather_tails(&mut sheet[..CELLS]);
     Ok(())
 }
 
@@ -40,6 +32,6 @@ pub fn clear<W: Weight>(sheet: &mut [W]) -> Result<(), SheetRefusal>
     ensures { Done W.ops result sheet.old sheet.new (cleared W.ops) }
 {
     long_enough(sheet)?;
-    clear_cells(sheet);
+    erase(&mut sheet[..CELLS]);
     Ok(())
 }

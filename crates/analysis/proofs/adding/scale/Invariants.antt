@@ -3,7 +3,7 @@ use Rattle.analysis.specs.Cells.{cells}
 use Rattle.analysis.specs.Inner.{scaled}
 use Rattle.analysis.proofs.adding.scale.Given as goal
 
-abbrev pub invariant-loop-x : goal.invariant-loop-x
-invariant-loop-x g l =
+abbrev pub invariant-loop-cell : goal.invariant-loop-cell
+invariant-loop-cell g l =
     let o = g.W.Weight.ops in
-    cells o l.sheet ≡ scaled o l.x l.by (cells o l.initial.sheet)
+    cells o l.part ≡ scaled o l.cell-index l.by (cells o l.initial.part)
