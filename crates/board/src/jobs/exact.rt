@@ -15,11 +15,11 @@ fn gather_late<W: Weight>(sheet: &mut [W], deadline: u8)
     requires { (length sheet.old ≡ 257) × (deadline ≤ 254) }
     ensures { cells W.ops sheet.new ≡ gathered_late W.ops deadline (cells W.ops sheet.old) }
 {
-    let first = deadline as usize + 1;
+    let after = &mut sheet[deadline as usize + 1..];
     let mut late = W::nought();
-    for x in first..257 {
-        late = late.sum(sheet[x]);
-        sheet[x] = W::nought();
+    for cell in after.iter_mut() {
+        late = late.sum(*cell);
+        *cell = W::nought();
     }
     sheet[256] = late;
 }
