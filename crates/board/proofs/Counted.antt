@@ -1,5 +1,5 @@
 -- The counted jobs slot by slot, and over ticks at which no job is released.
-use Rattle.std.proofs.Common.{◌≡◌, ℕ, zero, suc, ◌+◌, ◌-◌, ◌*◌, ◌<◌, ◌≤◌, true, not, List, [], ◌∷◌, ◌++◌, length, get_or, drop, Some, None, Option, sym, refl, ap, ◌∙◌, subst, ⊎_elim, arith}
+use Rattle.std.proofs.Common.{◌≡◌, ℕ, zero, suc, ◌+◌, ◌-◌, ◌<◌, ◌≤◌, true, not, List, [], ◌∷◌, ◌++◌, length, get_or, drop, Some, None, Option, sym, refl, ap, ◌∙◌, subst, ⊎_elim, arith}
 use Rattle.std.proofs.lemmas.List.{at_drop_more, drop_all, append_assoc, append-nil}
 use Rattle.std.proofs.lemmas.Bool.{cases_lt, and_left, cond-true, cond-false, lt-ltb, le-ltb, ne_eqb, eq-eqb, both_ways, not_from_true, not-true}
 use Rattle.board.specs.Model.{Entry}
@@ -142,9 +142,6 @@ module _ (rule : Rule) (ps : List (Option Entry)) (j : Job) where
 
     pub own_found : (xs : List Job) → own j t ≡ xs → left_from rule ps j t p ≡ xs ++ left_from rule ps j r 0
     own_found xs is = left_own t p r lt (omega arith) long s skips ∙ ap (λ ys. ys ++ left_from rule ps j r 0) is
-
-    pub own_falls : (due j - r) * 17 + (16 - 0) < (due j - t) * 17 + (16 - p)
-    own_falls = omega (arith, skips.low, skips.high)
 
   pub left_none : (t p : ℕ) → due j ≤ t → left_from rule ps j t p ≡ []
   unfolding left_from

@@ -1,7 +1,7 @@
 -- The cells of an exact answer after the deadline, and the weight of all its scenarios.
-use Rattle.std.proofs.Common.{◌≡◌, ℕ, ◌+◌, ◌<◌, ◌≤◌, ltb, leb, List, [], ◌∷◌, map, length, set, Option, sym, refl, ap, ◌∙◌, ⊎_elim, arith}
+use Rattle.std.proofs.Common.{◌≡◌, ℕ, ◌+◌, ◌-◌, ◌<◌, ◌≤◌, ltb, leb, List, [], ◌∷◌, ◌++◌, map, length, take, set, Option, sym, refl, ap, ◌∙◌, ⊎_elim, length-append, arith}
 use mathlib.Core.List.{map-map}
-use Rattle.std.proofs.lemmas.List.{get_or-set_same, get_or-set_other, map-append}
+use Rattle.std.proofs.lemmas.List.{get_or-set_same, get_or-set_other, get_or_append_left, get_or-append_right, get_or-take, get_or_past, length-take-le, map-append}
 use Rattle.std.proofs.lemmas.Bool.{cases_lt, cases_eq, cond-true, cond-false, le-leb, lt-leb, lt-ltb, le-ltb, eq-eqb, ne_eqb}
 use Rattle.theory.specs.Semiring.{Ops, Laws}
 use Rattle.theory.specs.Sums.{over}
@@ -42,6 +42,19 @@ module _ {K : Type 0} (o : Ops K) where
       (cases_eq k 256))
       (cases_lt k 256))
       (cases_lt k (d + 1)))
+
+  -- the cells up to the deadline, and others after them that are all nought
+  pub gathered_part : (old after past : List K) (d : ℕ) (late : K) → length old ≡ 257 → d ≤ 254 → length after ≡ 257 - (d + 1) → length past ≡ 0
+      → ((k : ℕ) → k < length after → cells o after k ≡ o.nought) → late ≡ tail o (cells o old) (d + 1) → cells o (set (take (d + 1) old ++ (after ++ past)) 256 late) ≡ gathered_late o d (cells o old)
+  gathered_part old after past d late long small rest end zero is =
+      let xs = take (d + 1) old ++ (after ++ past) in
+      let head : length (take (d + 1) old) ≡ d + 1 = length-take-le (d + 1) old (omega arith) in
+      let all : length xs ≡ 257 = omega (arith, length-append (take (d + 1) old) (after ++ past), length-append after past) in
+      gathered_all (cells o old) xs d late all small
+      (λ k h. get_or_append_left (take (d + 1) old) (after ++ past) o.nought k (omega arith) ∙ get_or-take (d + 1) old k o.nought h)
+      (λ k h l. get_or-append_right (take (d + 1) old) (after ++ past) (d + 1) k o.nought head h ∙ get_or_append_left after past o.nought (k - (d + 1)) (omega arith) ∙ zero (k - (d + 1)) (omega arith))
+      (λ k h. get_or_past xs k o.nought (omega arith) ∙ sym (get_or_past old k o.nought (omega arith)))
+      is
 
 module _ {K : Type 0} {o : Ops K} {least : K → K → Type 0} (laws : Laws o least) where
   pub total_is : (pairs : List Pair) → total o pairs ≡ over o (drawn_from pairs) (λ x. o.read x.1)

@@ -1,6 +1,6 @@
 -- What the code's sixteen places hold is lawful, and a write past them changes nothing.
-use Rattle.std.proofs.Common.{◌≡◌, ℕ, zero, suc, ◌<◌, ◌≤◌, true, List, [], ◌∷◌, map, length, set, Some, None, Option, refl, ap, arith}
-use Rattle.std.proofs.lemmas.List.{length-map}
+use Rattle.std.proofs.Common.{◌≡◌, ℕ, zero, suc, ◌<◌, ◌≤◌, true, List, [], ◌∷◌, map, length, get_or, set, Some, None, Option, sym, refl, ap, ◌∙◌, arith}
+use Rattle.std.proofs.lemmas.List.{length-map, get_or-map}
 use Rattle.std.proofs.lemmas.Bool.{and_from}
 use Rattle.board.specs.declared.tasks.Task.{Task}
 use Rattle.board.specs.declared.places.Entries.{Entries}
@@ -17,6 +17,10 @@ entries_lawful e = records_lawful e.at
 
 pub entries_long : (e : Entries) → length (places e) ≡ 16
 entries_long e = simp length-map e.sixteen
+
+-- what a loop over the places meets at place i
+pub entries_at : (e : Entries) (i : ℕ) (r x : Option Task) → i < length e.at → get_or e.at i r ≡ x → place_of x ≡ get_or (places e) i None
+entries_at e i r x lt is = ap place_of (sym is) ∙ sym (get_or-map place_of e.at i r None lt)
 
 pub set_past : {X : Type 0} (xs : List X) (i : ℕ) (x : X) → length xs ≤ i → set xs i x ≡ xs
 set_past [] i x h = refl

@@ -3,15 +3,13 @@ use Rattle.std.proofs.Common.{◌≡◌, ℕ, ◌+◌, ◌<◌, ◌≤◌, true,
 use Rattle.std.proofs.lemmas.List.{get_or_past}
 use Rattle.std.proofs.lemmas.Bool.{and_parts, and_from, cases_lt, eqb-true, eq-eqb, leb-true, le-leb, both_ways}
 use Rattle.analysis.specs.declared.pair.Pair.{Pair}
-use Rattle.board.specs.declared.places.Entries.{Entries}
-use Rattle.board.specs.declared.jobs.Job.{Job as Found}
 use Rattle.board.specs.declared.jobs.asked.Asked.{Asked}
 use Rattle.board.specs.Model.{Entry, all_lawful}
 use Rattle.board.specs.Places.{places, entry_of}
 use Rattle.board.specs.Jobs.{Job, due, releases}
 use Rattle.board.specs.Found.{job_of, Stands}
 use Rattle.board.specs.Standing.{same_pairs, same_entry, holds, stands}
-use Rattle.board.proofs.At.{not_none, ranges_at}
+use Rattle.board.proofs.At.{not_none, ranges, ranges_at}
 use Rattle.board.proofs.Records.{entries_lawful, entries_long}
 
 same_pairs_self : (ps : List Pair) → same_pairs ps ps ≡ true
@@ -77,8 +75,8 @@ stands_is ps j long ok h =
 pub asked_stands : (a : Asked) → Stands (places a.entries) (job_of a.job)
 asked_stands a = stands_is (places a.entries) (job_of a.job) (entries_long a.entries) (entries_lawful a.entries) a.sound
 
--- a job that is released before the deadline falls is released within 254 ticks of the job's release
-pub released_near : (e : Entries) (j : Found) (r : ℕ) → Stands (places e) (job_of j) → r < due (job_of j) → r < j.release + 255
-released_near e j r s soon =
-    let high = (ranges_at (places e) j.place (entry_of j.task) (entries_lawful e) (sym s.at_place)).deadline_high in
+-- a job that is released before the deadline falls is released within 254 ticks of the release of the job that is asked about
+pub asked_near : (a : Asked) (r : ℕ) → r < due (job_of a.job) → r < a.job.release + 255
+asked_near a r soon =
+    let high = (ranges (entry_of a.job.task) a.job.task.lawful).deadline_high in
     omega (arith, soon, high)

@@ -10,10 +10,10 @@ use Rattle.theory.specs.Semiring.{Ops}
 use Rattle.scenarios.specs.Walks as scenario
 use Rattle.scenarios.specs.Walks.{Settling}
 use Rattle.board.specs.Model.{Entry}
-use Rattle.board.specs.Jobs.{Rule, Job, counted, counted_before, counted_later}
+use Rattle.board.specs.Jobs.{Rule, Job, due, counted, counted_before, counted_later}
 use Rattle.board.specs.Walk.{Walk, begun, stepped, walked, walked_sheet, late_over}
 use Rattle.board.specs.Questions.{as_counted, question_over}
-use Rattle.board.proofs.Reach.{Rises, rises_in}
+use Rattle.board.proofs.Reach.{Rises, rises_in, rises_join}
 
 module _ {K : Type 0} (ops : Ops K) (settle : Settling K) where
   -- one counted job, and what is done to the sheet after its table is added
@@ -58,6 +58,16 @@ module _ (rule : Rule) (ps : List (Option Entry)) (opening : List Pair) (j : Job
 
   pub rises_later_jobs : Rises (j.release + 1) (j.release + 1 + (j.entry.deadline - 1)) (counted_later rule ps j)
   rises_later_jobs = rises_in rule j ps (j.entry.deadline - 1) (j.release + 1)
+
+  -- all counted jobs are released one after another, before the job is due
+  pub rises_counted : 1 ≤ j.entry.deadline → Rises 0 (due j) (counted rule ps j)
+  unfolding counted
+  rises_counted pos =
+      let high : j.release + 1 + (j.entry.deadline - 1) ≡ due j = omega arith in
+      let P : ℕ → Type 0 = λ h. Rises 0 h (counted_before rule ps j ++ (j ∷ counted_later rule ps j)) in
+      let Q : List Job → Type 0 = λ ks. Rises 0 (j.release + 1 + (j.entry.deadline - 1)) ks in
+      subst P high (subst Q (append_assoc (counted_before rule ps j) (j ∷ []) (counted_later rule ps j))
+      (rises_join 0 (j.release + 1) (j.release + 1 + (j.entry.deadline - 1)) (counted_before rule ps j ++ (j ∷ [])) (counted_later rule ps j) (omega arith) (omega arith) rises_upto rises_later_jobs))
 
   upto_same : map (as_counted rule) (counted_before rule ps j ++ (j ∷ [])) ≡ upto (question_over rule ps opening j)
   upto_same = map-append (as_counted rule) (counted_before rule ps j) (j ∷ [])

@@ -1,7 +1,6 @@
--- The model's job that a job of the code stands for, and what is left of the counted jobs where a cursor stands.
-use Rattle.std.specs.Prelude.{◌≡◌, ℕ, zero, suc, ◌+◌, ◌-◌, ◌*◌, ◌<◌, ◌≤◌, Bool, true, cond, not, List, [], ◌∷◌, ◌++◌, get_or, drop, Some, None, Option, ◌==◌, nat_lt, slice_index_or}
+-- The model's job that a job of the code stands for, and what is left of the counted jobs from a place of a tick on.
+use Rattle.std.specs.Prelude.{◌≡◌, ℕ, zero, suc, ◌+◌, ◌-◌, ◌<◌, ◌≤◌, Bool, true, cond, not, List, [], ◌∷◌, ◌++◌, get_or, drop, Some, None, Option, ◌==◌, nat_lt, slice_index_or}
 use Rattle.board.specs.declared.jobs.Job.{Job as Found}
-use Rattle.board.specs.declared.jobs.Cursor.{Cursor}
 use Rattle.board.specs.Model.{Entry}
 use Rattle.board.specs.Places.{entry_of}
 use Rattle.board.specs.Jobs.{Rule, Job, due, releases, ahead_from}
@@ -22,13 +21,6 @@ counted_in rule ps j (suc n) t = ahead_from rule j 0 ps t ++ (own j t ++ counted
 unfoldable pub left_from : Rule → List (Option Entry) → Job → ℕ → ℕ → List Job
 left_from rule ps j t p =
     cond (nat_lt t (due j)) (ahead_from rule j p (drop p ps) t ++ (own j t ++ counted_in rule ps j (due j - (t + 1)) (t + 1))) []
-
-abbrev pub left : Rule → List (Option Entry) → Job → Cursor → List Job
-left rule ps j c = left_from rule ps j c.tick c.place
-
--- how many slots, seventeen to a tick, a cursor has before it
-abbrev pub slots : Job → Cursor → ℕ
-slots j c = (due j - c.tick) * 17 + (16 - c.place)
 
 -- the job stands in the book: its task at its place, with a release at its tick, and due within the longest window
 pub record Stands (ps : List (Option Entry)) (j : Job) : Type 0 where

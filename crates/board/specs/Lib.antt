@@ -8,3 +8,4 @@ pub mod Standing
 pub mod Walk
 pub mod Questions
 pub mod Asked
+pub mod Left

@@ -1,5 +1,6 @@
 //! The jobs of a book, and the ones that are counted for a job, one after another.
 
+use crate::jobs::asked::Asked;
 use crate::tasks::Task;
 
 pub mod asked;
@@ -16,9 +17,11 @@ pub struct Job {
     pub release: u32,
 }
 
-/// Where a walk over the counted jobs stands: at a tick, before a place of it, or after all sixteen.
-#[derive(Clone, Copy)]
-pub struct Cursor {
+/// The counted jobs of a job that are left, one after another: from a place of a tick on, or from after the sixteen places.
+#[derive(Drop)]
+pub(crate) struct CountedJobs<'a, R> {
+    asked: &'a Asked,
+    rule: &'a R,
     tick: u32,
     place: u8,
 }

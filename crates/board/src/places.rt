@@ -5,6 +5,7 @@ use crate::tasks::Task;
 
 mod counts;
 mod records;
+mod releases;
 
 /// A table of sixteen records, one for each place.
 #[derive(Clone, Copy)]

@@ -1,16 +1,14 @@
 //! A time table: 1 to 16 pairs of a time and a weight.
-ghost use Rattle.std.specs.Prelude.{◌≡◌, ◌≤◌, true, take};
+ghost use Rattle.std.specs.Prelude.{◌≡◌, true};
 ghost use Rattle.board.specs.Pairs.{lawful};
 
-use analysis::Pair;
+use analysis::{Pair, ShortList};
 
 mod build;
 
-/// A time table: its first `len` pairs, whose times rise strictly and whose weights, of at least 1, add up to at most 65,535.
+/// A time table: pairs whose times rise strictly and whose weights, of at least 1, add up to at most 65,535.
 #[derive(Clone, Copy)]
 pub struct TimeTable {
-    held: [Pair; 16],
-    len: u8,
-    ghost fits: { len ≤ 16 },
-    ghost sound: { lawful (take len held) ≡ true },
+    held: ShortList<Pair, 16>,
+    ghost sound: { lawful held.items ≡ true },
 }

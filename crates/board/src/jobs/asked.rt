@@ -8,8 +8,6 @@ use crate::jobs::Job;
 use crate::places::Entries;
 use crate::tables::TimeTable;
 
-mod answers;
-
 /// A job that is asked about, with the tasks and the opening table of its book: its task stands at its place and releases it, and its
 /// deadline falls at tick 32,768 or before.
 #[derive(Clone, Copy)]

@@ -1,23 +1,17 @@
 //! The counted jobs of a job, in their order, from release to release.
-ghost use Rattle.std.specs.Prelude.{◌≡◌, ◌+◌, ◌<◌, ◌≤◌, [], ◌∷◌, ◌++◌, map, IfSome, None, MatchOption, slice_index_or};
+ghost use Rattle.std.specs.Prelude.{◌≡◌, ◌+◌, ◌<◌, ◌++◌, map, None, slice_index_or};
 ghost use Rattle.std.specs.Option.{option_to_list};
+ghost use Rattle.std.specs.Iterator.{YieldsFirstBy, item_count};
 ghost use Rattle.board.specs.Places.{places};
-ghost use Rattle.board.specs.Jobs.{Rule, rank, due, ahead, ahead_at, counted};
-ghost use Rattle.board.specs.Found.{job_of, left, slots, Stands};
+ghost use Rattle.board.specs.Jobs.{rank, due, ahead, ahead_at, counted};
+ghost use Rattle.board.specs.Found.{job_of};
+ghost use Rattle.board.specs.Left.{left, slots};
 
-use crate::jobs::{Cursor, Job};
-use crate::places::Entries;
+use crate::jobs::asked::Asked;
+use crate::jobs::{CountedJobs, Job};
 use analysis::Ranking;
 
 impl Job {
-    /// The tick at which the job's deadline falls.
-    pub(crate) fn due(&self) -> u32
-        requires { due (job_of self.now) ≤ 32768 }
-        ensures { result ≡ due (job_of self.now) }
-    {
-        self.release + self.task.deadline as u32
-    }
-
     /// The job's rank by a rule.
     fn rank<R: Ranking>(&self, rule: &R) -> u64
         ensures { result ≡ rank (R.Ranking.ranks rule.now) (job_of self.now) }
@@ -34,25 +28,25 @@ impl Job {
     pub(crate) fn is_ahead<R: Ranking>(&self, rule: &R, other: &Job) -> bool
         ensures { result ≡ ahead (R.Ranking.ranks rule.now) (job_of self.now) (job_of other.now) }
     {
-        let mine = self.rank(rule);
-        let theirs = other.rank(rule);
-        if mine != theirs {
-            return mine < theirs;
-        }
-        if self.release != other.release {
-            return self.release < other.release;
-        }
-        self.place < other.place
+        let mine = (self.rank(rule), self.release, self.place);
+        let theirs = (other.rank(rule), other.release, other.place);
+        mine < theirs
     }
 }
 
-impl Entries {
-    /// The job that the task at a place releases at the tick, if it goes ahead of `job`.
-    fn ahead_at<R: Ranking>(&self, rule: &R, job: &Job, place: u8, tick: u32) -> Option<Job>
-        ensures finds { map job_of (option_to_list result) ≡ ahead_at (R.Ranking.ranks rule.now) (job_of job.now) place (slice_index_or (places self.now) place None) tick }
-        ensures at { IfSome result (λ k. k.release ≡ tick) }
+impl Asked {
+    /// The tick at which the job's deadline falls.
+    fn due(&self) -> u32
+        ensures { result ≡ due (job_of self.now.job) }
     {
-        let task = self.get(place)?;
+        self.job.release + self.job.task.deadline as u32
+    }
+
+    /// The job that the task at a place releases at the tick, if it goes ahead of the job.
+    fn ahead_at<R: Ranking>(&self, rule: &R, place: u8, tick: u32) -> Option<Job>
+        ensures { map job_of (option_to_list result) ≡ ahead_at (R.Ranking.ranks rule.now) (job_of self.now.job) place (slice_index_or (places self.now.entries) place None) tick }
+    {
+        let task = self.entries.get(place)?;
         if !task.releases_at(tick) {
             return None;
         }
@@ -61,62 +55,59 @@ impl Entries {
             task,
             release: tick,
         };
-        if found.is_ahead(rule, job) {
+        if found.is_ahead(rule, &self.job) {
             Some(found)
+        } else {
+            None
+        }
+    }
+
+    /// The counted jobs of the job.
+    pub(crate) fn counted<'a, R: Ranking>(&'a self, rule: &'a R) -> CountedJobs<'a, R>
+        ensures { left (R.Ranking.ranks result.rule.now) result ≡ counted (R.Ranking.ranks rule.now) (places self.now.entries) (job_of self.now.job) }
+    {
+        CountedJobs {
+            asked: self,
+            rule,
+            tick: self.entries.next_release(0, self.due()),
+            place: 0,
+        }
+    }
+}
+
+impl<'a, R: Ranking> CountedJobs<'a, R> {
+    /// Looks at one slot: a place of the tick or, after the sixteen places, the job itself; then goes on to the next.
+    fn look(&mut self) -> Option<Job>
+        requires { self.old.tick < due (job_of self.old.asked.now.job) }
+        ensures finds { left (R.Ranking.ranks self.old.rule.now) self.old ≡ map job_of (option_to_list result) ++ left (R.Ranking.ranks self.new.rule.now) self.new }
+        ensures falls { slots self.new < slots self.old }
+    {
+        let tick = self.tick;
+        let place = self.place;
+        if place < 16 {
+            self.place = place + 1;
+            return self.asked.ahead_at(self.rule, place, tick);
+        }
+        self.tick = self.asked.entries.next_release(tick + 1, self.asked.due());
+        self.place = 0;
+        if tick == self.asked.job.release {
+            Some(self.asked.job)
         } else {
             None
         }
     }
 }
 
-impl Entries {
-    /// Before the first counted job of `job`.
-    pub(crate) fn before_counted(&self, job: &Job) -> Cursor
-        requires { Stands (places self.now) (job_of job.now) }
-        ensures { (rule : Rule) → left rule (places self.now) (job_of job.now) result ≡ counted rule (places self.now) (job_of job.now) }
-    {
-        Cursor {
-            tick: self.next_release(0, job.due()),
-            place: 0,
-        }
-    }
+impl<'a, R: Ranking> Iterator for CountedJobs<'a, R> {
+    type Item = Job;
 
-    /// Looks at one slot: a place of the cursor's tick or, after the sixteen places, the job itself; the cursor goes on to the next.
-    fn look<R: Ranking>(&self, rule: &R, job: &Job, cursor: &mut Cursor) -> Option<Job>
-        requires { (Stands (places self.now) (job_of job.now)) × (cursor.old.tick < due (job_of job.now)) }
-        ensures finds { left (R.Ranking.ranks rule.now) (places self.now) (job_of job.now) cursor.old ≡ map job_of (option_to_list result) ++ left (R.Ranking.ranks rule.now) (places self.now) (job_of job.now) cursor.new }
-        ensures soon { IfSome result (λ k. k.release < due (job_of job.now)) }
-        ensures falls { slots (job_of job.now) cursor.new < slots (job_of job.now) cursor.old }
-    {
-        let tick = cursor.tick;
-        let place = cursor.place;
-        if place < 16 {
-            cursor.place = place + 1;
-            return self.ahead_at(rule, job, place, tick);
-        }
-        cursor.tick = self.next_release(tick + 1, job.due());
-        cursor.place = 0;
-        if tick == job.release {
-            Some(*job)
-        } else {
-            None
-        }
-    }
+    ghost next_gives = { YieldsFirstBy job_of (λ s. left (R.Ranking.ranks s.rule.now) s) };
 
-    /// The next counted job after the cursor, which goes on past it.
-    pub(crate) fn next_counted<R: Ranking>(
-        &self,
-        rule: &R,
-        job: &Job,
-        cursor: &mut Cursor,
-    ) -> Option<Job>
-        requires { Stands (places self.now) (job_of job.now) }
-        ensures finds { MatchOption result (left (R.Ranking.ranks rule.now) (places self.now) (job_of job.now) cursor.old ≡ []) (λ k. left (R.Ranking.ranks rule.now) (places self.now) (job_of job.now) cursor.old ≡ job_of k ∷ left (R.Ranking.ranks rule.now) (places self.now) (job_of job.now) cursor.new) }
-        ensures soon { IfSome result (λ k. k.release < due (job_of job.now)) }
-    {
-        let end = job.due();
-        while cursor.tick < end {
-            if let Some(found) = self.look(rule, job, cursor) {
+    ghost remaining = { item_count (λ s. left (R.Ranking.ranks s.rule.now) s) };
+
+    fn next(&mut self) -> Option<Job> {
+        while self.tick < self.asked.due() {
+            if let Some(found) = self.look() {
                 return Some(found);
             }
         }

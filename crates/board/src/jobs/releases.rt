@@ -1,10 +1,8 @@
 //! When tasks release their jobs.
 ghost use Rattle.std.specs.Prelude.{◌≡◌, ℕ, ◌+◌, ◌<◌, ◌≤◌, false};
-ghost use Rattle.board.specs.Places.{places, entry_of};
+ghost use Rattle.board.specs.Places.{entry_of};
 ghost use Rattle.board.specs.Jobs.{releases, release_of};
-ghost use Rattle.board.specs.Found.{Skips};
 
-use crate::places::Entries;
 use crate::tasks::Task;
 
 impl Task {
@@ -40,21 +38,5 @@ impl Task {
         } else {
             from + (period - since)
         }
-    }
-}
-
-impl Entries {
-    /// The first tick from `from` on at which some job is released, or `end` where that is earlier.
-    pub(crate) fn next_release(&self, from: u32, end: u32) -> u32
-        requires { (from ≤ end) × (end ≤ 1048576) }
-        ensures { Skips (places self.now) from end result }
-    {
-        let mut next = end;
-        for place in 0..16 {
-            if let Some(task) = self.get(place) {
-                next = next.min(task.next_release(from));
-            }
-        }
-        next
     }
 }

@@ -1,15 +1,17 @@
-//! The walks over the counted jobs of a job: exact, over any kind, and rounded, in counts.
-ghost use Rattle.std.specs.Prelude.{◌≡◌, ℕ, ◌+◌, ◌<◌, ◌≤◌, length, MatchResult};
-ghost use Rattle.analysis.specs.Cells.{cells, added};
+//! The walk over the counted jobs of a job that is asked about: exact, over any kind, and rounded, in counts.
+ghost use Rattle.std.specs.Prelude.{◌≡◌, ◌+◌, ◌<◌, ◌≤◌, length, IfOk, MatchResult};
+ghost use Rattle.analysis.specs.Cells.{cells, added, cleared};
 ghost use Rattle.analysis.specs.Sheets.{Done};
-ghost use Rattle.kinds.specs.Counts.{count_ops, counted as count_of};
-ghost use Rattle.scenarios.specs.Walks.{lone, settled};
+ghost use Rattle.kinds.specs.Counts.{count_ops};
+ghost use Rattle.scenarios.specs.Walks.{Settling, lone, unsettled, settled, rounded_late};
+ghost use Rattle.board.specs.Tables.{table_pairs};
 ghost use Rattle.board.specs.Places.{places};
-ghost use Rattle.board.specs.Found.{job_of, Stands};
-ghost use Rattle.board.specs.Walk.{stepped, walked_sheet, late_over};
+ghost use Rattle.board.specs.Found.{job_of};
+ghost use Rattle.board.specs.Walk.{stepped, walked_sheet};
+ghost use Rattle.board.specs.Asked.{question_asked};
 
 use crate::jobs::Job;
-use crate::places::Entries;
+use crate::jobs::asked::Asked;
 use analysis::{
     Count, Pair, Ranking, SheetRefusal, Weight, add, add_from, clear, pass, round_tails, tails,
     total,
@@ -50,53 +52,77 @@ pub(crate) fn count_in<W: Weight>(
     }
 }
 
-/// Divides every tail by a table's total, rounded up.
-fn round_by(sheet: &mut [Count], table: &[Pair]) -> Result<(), SheetRefusal>
-    ensures { Done count_ops result sheet.old sheet.new (settled table.now) }
-{
-    let all: Count = total(table);
-    round_tails(sheet, all.value())?;
-    Ok(())
+/// What a walk does to a sheet after each table is added.
+pub(crate) trait Settle<W: Weight> {
+    ghost settles: { Settling W };
+
+    fn settle(&self, sheet: &mut [W], table: &[Pair]) -> Result<(), SheetRefusal>
+        ensures { MatchResult result (λ _. cells W.ops sheet.new ≡ settles table.now (cells W.ops sheet.old)) (λ _. length sheet.old < 257) };
 }
 
-impl Entries {
-    /// Walks over the counted jobs of a job on a sheet of 257 cells of counts, rounding the tails after each table.
-    fn walk_rounded<R: Ranking>(
+/// The exact walk does nothing more.
+pub(crate) struct Unsettled;
+
+impl<W: Weight> Settle<W> for Unsettled {
+    ghost settles = { unsettled };
+
+    fn settle(&self, _sheet: &mut [W], _table: &[Pair]) -> Result<(), SheetRefusal> {
+        Ok(())
+    }
+}
+
+/// The rounded walk divides every tail by the table's total, rounded up.
+struct Rounded;
+
+impl Settle<Count> for Rounded {
+    ghost settles = { settled };
+
+    fn settle(&self, sheet: &mut [Count], table: &[Pair]) -> Result<(), SheetRefusal> {
+        let all: Count = total(table);
+        round_tails(sheet, all.value())
+    }
+}
+
+impl Asked {
+    /// Walks over the counted jobs on a sheet of 257 cells, from `x` at the time 0.
+    pub(crate) fn walk<W: Weight, R: Ranking, S: Settle<W>>(
         &self,
         rule: &R,
-        job: &Job,
-        opening: &[Pair],
-        sheet: &mut [Count],
+        settling: &S,
+        x: W,
+        sheet: &mut [W],
     ) -> Result<(), SheetRefusal>
-        requires { (Stands (places self.now) (job_of job.now)) × (length sheet.old ≡ 257) }
-        ensures { MatchResult result (λ _. cells count_ops sheet.new ≡ walked_sheet count_ops settled (count_of 1048576) (R.Ranking.ranks rule.now) (places self.now) opening.now (job_of job.now)) (λ _. ⊥) }
+        requires { length sheet.old ≡ 257 }
+        ensures { MatchResult result (λ _. cells W.ops sheet.new ≡ walked_sheet W.ops S.settles x (R.Ranking.ranks rule.now) (places self.now.entries) (table_pairs self.now.opening) (job_of self.now.job)) (λ _. ⊥) }
     {
-        begin(sheet, Count::new(WHOLE), opening)?;
-        round_by(sheet, opening)?;
-        let mut cursor = self.before_counted(job);
+        let opening = self.opening.pairs();
+        begin(sheet, x, opening)?;
+        settling.settle(sheet, opening)?;
         let mut last = 0;
-        while let Some(next) = self.next_counted(rule, job, &mut cursor) {
-            last = count_in(sheet, last, job.release, &next)?;
-            round_by(sheet, next.task.table.pairs())?;
+        for next in self.counted(rule) {
+            last = count_in(sheet, last, self.job.release, &next)?;
+            settling.settle(sheet, next.task.table.pairs())?;
         }
         Ok(())
     }
 
-    /// The rounded late weight of a job, by a walk on a sheet of 257 cells, which is left nought.
-    pub(crate) fn rounded_late<R: Ranking>(
+    /// The rounded late weight of the job, by a walk on the first 257 cells of a sheet, which are left nought.
+    pub fn rounded_late<R: Ranking>(
         &self,
         rule: &R,
-        job: &Job,
-        opening: &[Pair],
         sheet: &mut [Count],
     ) -> Result<u64, SheetRefusal>
-        requires { (Stands (places self.now) (job_of job.now)) × (length sheet.old ≡ 257) }
-        ensures { MatchResult result (λ v. (v ≡ late_over (R.Ranking.ranks rule.now) (places self.now) opening.now (job_of job.now)) × ((k : ℕ) → cells count_ops sheet.new k ≡ count_of 0)) (λ _. ⊥) }
+        ensures is { IfOk result (λ v. (v ≡ rounded_late (question_asked (R.Ranking.ranks rule.now) self.now)) × (v ≤ 1048576)) }
+        ensures leaves { Done count_ops result sheet.old sheet.new (cleared count_ops) }
     {
-        self.walk_rounded(rule, job, opening, sheet)?;
-        tails(sheet)?;
-        let late = sheet[job.task.deadline as usize + 1].value();
-        clear(sheet)?;
+        if sheet.len() < 257 {
+            return Err(SheetRefusal::Short);
+        }
+        let cells = &mut sheet[0..257];
+        self.walk(rule, &Rounded, Count::new(WHOLE), cells)?;
+        tails(cells)?;
+        let late = cells[self.job.task.deadline as usize + 1].value();
+        clear(cells)?;
         Ok(late)
     }
 }

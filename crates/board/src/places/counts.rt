@@ -1,5 +1,5 @@
 //! The hyperperiod of the tasks, and the jobs in it.
-ghost use Rattle.std.specs.Prelude.{◌≡◌, ℕ, ◌%◌, ◌≤◌, MatchOption, ◌≢◌};
+ghost use Rattle.std.specs.Prelude.{◌≡◌, ℕ, ◌%◌, ◌<◌, ◌≤◌, MatchOption, ◌≢◌};
 ghost use Rattle.board.specs.Model.{hyperperiod, jobs};
 ghost use Rattle.board.specs.Places.{places};
 
@@ -21,20 +21,17 @@ fn common(a: u16, b: u16) -> Option<u16>
 }
 
 impl Entries {
-    /// The hyperperiod, or 4,097 where it is above 4,096.
-    pub fn hyperperiod(&self) -> u16
-        ensures { result ≡ hyperperiod (places self.now) }
+    /// The hyperperiod; none where it is above 4,096.
+    pub fn hyperperiod(&self) -> Option<u16>
+        ensures { MatchOption result (4096 < hyperperiod (places self.now)) (λ h. (h ≡ hyperperiod (places self.now)) × (h ≤ 4096)) }
     {
         let mut h = 1;
-        for i in 0..16 {
-            if let Some(task) = self.get(i) {
-                match common(h, task.period) {
-                    Some(m) => h = m,
-                    None => return 4097,
-                }
+        for held in &self.at {
+            if let Some(task) = held {
+                h = common(h, task.period)?;
             }
         }
-        h
+        Some(h)
     }
 
     /// How many jobs are released in `h` ticks, where each period divides `h`.
@@ -42,8 +39,8 @@ impl Entries {
         ensures { result ≡ jobs (places self.now) h }
     {
         let mut n: u32 = 0;
-        for i in 0..16 {
-            if let Some(task) = self.get(i) {
+        for held in &self.at {
+            if let Some(task) = held {
                 n += (h / task.period) as u32;
             }
         }

@@ -4,7 +4,10 @@ ghost use Rattle.board.specs.Pairs.{lawful, no_work};
 ghost use Rattle.board.specs.Tables.{table_pairs};
 
 use crate::tables::TimeTable;
-use analysis::Pair;
+use analysis::{Pair, ShortList};
+
+/// No work: time 0 with weight 1.
+const NO_WORK: Pair = Pair { time: 0, weight: 1 };
 
 /// Whether the pairs make a time table.
 fn is_lawful(pairs: &[Pair]) -> bool
@@ -33,30 +36,24 @@ impl TimeTable {
         if !is_lawful(pairs) {
             return None;
         }
-        let mut held = [Pair { time: 0, weight: 0 }; 16];
-        for (i, p) in pairs.iter().enumerate() {
-            held[i] = *p;
-        }
-        Some(TimeTable {
-            held,
-            len: pairs.len() as u8,
-        })
+        let held = ShortList::from_slice(pairs, NO_WORK)?;
+        Some(TimeTable { held })
     }
 
     /// The table of no work: time 0 with weight 1.
     pub fn no_work() -> TimeTable
         ensures { table_pairs result ≡ no_work }
     {
-        TimeTable {
-            held: [Pair { time: 0, weight: 1 }; 16],
-            len: 1,
-        }
+        let Some(held) = ShortList::from_slice(&[NO_WORK], NO_WORK) else {
+            unreachable!()
+        };
+        TimeTable { held }
     }
 
     /// The pairs of the table.
     pub fn pairs(&self) -> &[Pair]
         ensures { result.now ≡ table_pairs self.now }
     {
-        &self.held[0..self.len as usize]
+        self.held.as_slice()
     }
 }

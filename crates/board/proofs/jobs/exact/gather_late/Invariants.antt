@@ -1,13 +1,11 @@
-use Rattle.std.proofs.Common.{◌≡◌, ℕ, ◌-◌, ◌<◌, ◌≤◌}
+use Rattle.std.proofs.Common.{◌≡◌, ℕ, ◌+◌, ◌<◌, ◌≤◌}
 use Rattle.analysis.specs.Cells.{cells, span}
 use Rattle.board.proofs.jobs.exact.gather_late.Given as goal
 
-abbrev pub invariant-loop-x : goal.invariant-loop-x
-invariant-loop-x g l =
+abbrev pub invariant-loop-cell : goal.invariant-loop-cell
+invariant-loop-cell g l =
     let o = g.W.Weight.ops in
-    let old = cells o l.initial.sheet in
-    (l.first ≤ l.x)
-    × (l.late ≡ span o old l.first (l.x - l.first))
-    × ((k : ℕ) → k < l.first → cells o l.sheet k ≡ old k)
-    × ((k : ℕ) → l.first ≤ k → k < l.x → cells o l.sheet k ≡ o.nought)
-    × ((k : ℕ) → l.x ≤ k → cells o l.sheet k ≡ old k)
+    let old = cells o l.fn.sheet in
+    (l.late ≡ span o old (l.deadline + 1) l.cell-index)
+    × ((k : ℕ) → k < l.cell-index → cells o l.after k ≡ o.nought)
+    × ((k : ℕ) → l.cell-index ≤ k → cells o l.after k ≡ old (l.deadline + 1 + k))
