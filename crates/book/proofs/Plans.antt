@@ -1,5 +1,5 @@
 -- What a plan says of the task at a place, as its questions read it.
-use Rattle.std.proofs.Common.{◌≡◌, ℕ, ◌+◌, ◌*◌, ◌<◌, ◌≤◌, true, false, cond, ltb, length, get_or, Some, None, Ok, Err, Option, Result, sym, refl, ap, ◌∙◌, subst, le_trans, add-one, arith}
+use Rattle.std.proofs.Common.{◌≡◌, ℕ, suc, ◌+◌, ◌-◌, ◌*◌, ◌<◌, ◌≤◌, true, false, cond, ltb, length, get_or, Some, None, Ok, Err, Option, Result, sym, refl, ap, ◌∙◌, subst, le_trans, arith}
 use Rattle.std.specs.Result.{result_ok}
 use Rattle.std.proofs.lemmas.Bool.{leb-true, le-leb, lt-ltb, and_from, cond-true, cond-false}
 use Rattle.board.specs.declared.tasks.Task.{Task}
@@ -46,25 +46,20 @@ pub plan_long : (p : Plan) → length (plan_book p).places ≡ 16
 plan_long p = entries_long p.draft.entries
 
 -- one more job of a round
-pub late_more : (rule : Rule) (b : Book) (place : ℕ) (e : Entry) (from i : ℕ) → late_sum rule b place e from (i + 1) ≡ late_sum rule b place e from i + rounded_late rule b (job_at place e (from + i))
-late_more rule b place e from i = rw add-one
+pub late_more : (rule : Rule) (b : Book) (place : ℕ) (e : Entry) (from k late one : ℕ) → from ≤ k → late ≡ late_sum rule b place e from (k - from) → one ≡ rounded_late rule b (job_at place e k) → late + one ≡ late_sum rule b place e from (k + 1 - from)
+late_more rule b place e from k late one le sum is =
+    let next : k + 1 - from ≡ suc (k - from) = omega arith in
+    let at : from + (k - from) ≡ k = omega arith in
+    rw (next, at, sum, is)
 
 -- a job of a ready batch stands in the book
-module _ (p : Plan) (x : Batch) (i r : ℕ) (ready : Ready (plan_book p) x) (lt : i < x.jobs) (is : r ≡ release_of (entry_of x.task) (x.first + i)) where
-  ready_soon : due (job_at x.place (entry_of x.task) (x.first + i)) ≤ 32768
-  ready_soon =
-      let b = plan_book p in
-      let e = entry_of x.task in
-      let j = job_at x.place e (x.first + i) in
-      le_trans (leb-true (due j) (window b) (each_inside b x.place e x.first x.jobs i lt ready.inside)) (window_high b.places b.rounds p.draft.sound)
-
-  pub ready_stands : stands (plan_book p).places (record { place = x.place; entry = entry_of x.task; release = r }) ≡ true
-  ready_stands =
-      let e = entry_of x.task in
-      stands_at (plan_book p).places x.place (x.first + i) r e (plan_long p) ready.held is ready_soon (plan_ranges p x.place e ready.held).deadline_low
-
-  pub ready_low : r ≤ 32768
-  ready_low = omega (arith, ready_soon)
+pub ready_stands : (p : Plan) (x : Batch) (k r : ℕ) → Ready (plan_book p) x → x.first ≤ k → k < x.first + x.jobs → r ≡ release_of (entry_of x.task) k → stands (plan_book p).places (record { place = x.place; entry = entry_of x.task; release = r }) ≡ true
+ready_stands p x k r ready from to is =
+    let b = plan_book p in
+    let e = entry_of x.task in
+    let j = job_at x.place e k in
+    let soon = le_trans (leb-true (due j) (window b) (each_inside b x.place e x.first x.jobs k from to ready.inside)) (window_high b.places b.rounds p.draft.sound) in
+    stands_at b.places x.place k r e (plan_long p) ready.held is soon (plan_ranges p x.place e ready.held).deadline_low
 
 -- sheets that are long enough leave the answer as it is
 pub long_told : {X : Type 0} (m n : ℕ) (x : Result X ℕ) → 257 ≤ m → 257 ≤ n → x ≡ cond (long m n) x (Err 10)

@@ -113,11 +113,10 @@ module _ (b : Book) (place : ℕ) (e : Entry) where
       let same : from + suc n - 1 ≡ from + n = omega arith in
       and_right (all_within b place e from n) _ (ap (λ i. within b (job_at place e i)) (sym same) ∙ miss)
 
-  pub each_inside : (from n i : ℕ) → i < n → all_within b place e from n ≡ true → within b (job_at place e (from + i)) ≡ true
-  each_inside from zero i h ok = absurd (omega arith)
-  each_inside from (suc n) i h ok =
-      let parts = and_parts (all_within b place e from n) (within b (job_at place e (from + n))) ok in
-      within_before (from + i) (from + n) (omega arith) parts.1
+  pub each_inside : (from n k : ℕ) → from ≤ k → k < from + n → all_within b place e from n ≡ true → within b (job_at place e k) ≡ true
+  each_inside from zero k l h ok = absurd (omega arith)
+  each_inside from (suc n) k l h ok =
+      within_before k (from + n) (omega arith) (and_parts (all_within b place e from n) (within b (job_at place e (from + n))) ok).1
 
 -- THE JOBS OF A ROUND
 below_block : (p f i m : ℕ) → f < p → i < m → f + i * p < m * p

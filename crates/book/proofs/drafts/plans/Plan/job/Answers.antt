@@ -4,8 +4,6 @@ use Rattle.board.specs.Model.{window}
 use Rattle.board.specs.Jobs.{due, release_of}
 use Rattle.book.specs.Asks.{job_at}
 use Rattle.board.specs.Places.{entry_of}
-use Rattle.board.proofs.Records.{entries_lawful}
-use Rattle.board.proofs.Standing.{stands_is}
 use Rattle.book.proofs.Asked.{granted_in, stands_at}
 use Rattle.book.proofs.Plans.{given_entry, plan_long, plan_ranges}
 use Rattle.book.proofs.drafts.plans.Plan.job.Goals as goal
@@ -30,9 +28,7 @@ returns c =
     let is = given_entry _ _ _ _ c.entry.ensures c.ok_or.ensures.ok_part c.in_ok-task.was in
     let early : release_of e i < window b = omega (arith, c.window-end.ensures.is, c.release_of-release.ensures) in
     let soon : due (job_at place e i) ≤ window b = omega (arith, c.window-end.ensures.is, c.release_of-release.ensures) in
-    let most : due (job_at place e i) ≤ 32768 = omega (arith, c.window-end.ensures.bound, c.release_of-release.ensures) in
     record {
       finds = ap (λ r. Ok (record { place = place; entry = e; release = r })) c.release_of-release.ensures ∙ granted_in b place i e is early soon;
-      stands = stands_is b.places (record { place = place; entry = e; release = c.release_of-release.result }) (plan_long p) (entries_lawful p.draft.entries) (stands_at b.places place i c.release_of-release.result e (plan_long p) is c.release_of-release.ensures most (plan_ranges p place e is).deadline_low);
       in_book = λ rule. refl;
     }

@@ -14,7 +14,6 @@ returns-then-is_top g c =
     let top = ap o.top (sym c.scenario_weight-all.ensures) ∙ sym c.is_top.ensures ∙ c.if-is_top.true in
     record {
       finds = heavy_told rule (plan_book c.args.self.now) _ (job_of a.job) (question_asked rule a) f.finds (f.in_book rule) o top;
-      stands = tt;
       in_book = tt;
     }
 
@@ -27,6 +26,5 @@ returns g c =
     let low = ap o.top (sym c.scenario_weight-all.ensures) ∙ sym c.is_top.ensures ∙ c.if-is_top.false in
     record {
       finds = light_told rule (plan_book c.args.self.now) _ (job_of a.job) (question_asked rule a) f.finds (f.in_book rule) o low;
-      stands = f.stands;
       in_book = f.in_book;
     }
