@@ -1,23 +1,18 @@
 -- What a plan says of the task at a place, as its questions read it.
-use Rattle.std.proofs.Common.{◌≡◌, ℕ, suc, ◌+◌, ◌-◌, ◌*◌, ◌<◌, ◌≤◌, true, false, cond, ltb, length, get_or, Some, None, Ok, Err, Option, Result, sym, refl, ap, ◌∙◌, subst, le_trans, arith}
+use Rattle.std.proofs.Common.{◌≡◌, ℕ, suc, ◌+◌, ◌-◌, ◌*◌, ◌<◌, ◌≤◌, true, length, get_or, Some, None, Ok, Option, Result, sym, ap, ◌∙◌, subst, le_trans, arith}
 use Rattle.std.specs.Result.{result_ok}
-use Rattle.std.proofs.lemmas.Bool.{leb-true, le-leb, lt-ltb, and_from, cond-true, cond-false}
+use Rattle.std.proofs.lemmas.Bool.{leb-true}
 use Rattle.board.specs.declared.tasks.Task.{Task}
 use Rattle.book.specs.declared.refusals.Refusal.{Refusal}
 use Rattle.book.specs.declared.drafts.plans.Plan.{Plan}
 use Rattle.book.specs.declared.batches.Batch.{Batch}
-use Rattle.book.specs.declared.lateness.TaskLateness.{TaskLateness}
 use Rattle.book.specs.Drafts.{plan_book}
 use Rattle.board.specs.Model.{Entry, Book, hyperperiod, window}
-use Rattle.board.specs.Jobs.{Rule, Job, due, release_of}
+use Rattle.board.specs.Jobs.{Rule, due, release_of}
 use Rattle.board.specs.Standing.{stands}
-use Rattle.theory.specs.Semiring.{Ops}
-use Rattle.scenarios.specs.Questions.{Question, weight_of_all}
-use Rattle.scenarios.specs.Walks.{rounded_late as late_of_question}
-use Rattle.board.specs.Questions.{question_of}
 use Rattle.book.specs.Batches.{IsBatch, Ready}
 use Rattle.board.specs.Places.{place_of, entry_of}
-use Rattle.book.specs.Asks.{rounded_late, rounded_of, light, ReleasedIn, round_jobs, job_at, late_sum, long, all_within, task_of, task_answer}
+use Rattle.book.specs.Asks.{rounded_late, ReleasedIn, round_jobs, job_at, late_sum}
 use Rattle.board.proofs.Records.{entries_lawful, entries_long}
 use Rattle.board.proofs.At.{Ranges, ranges_at}
 use Rattle.book.proofs.Asked.{stands_at}
@@ -60,53 +55,6 @@ ready_stands p x k r ready from to is =
     let j = job_at x.place e k in
     let soon = le_trans (leb-true (due j) (window b) (each_inside b x.place e x.first x.jobs k from to ready.inside)) (window_high b.places b.rounds p.draft.sound) in
     stands_at b.places x.place k r e (plan_long p) ready.held is soon (plan_ranges p x.place e ready.held).deadline_low
-
--- sheets that are long enough leave the answer as it is
-pub long_told : {X : Type 0} (m n : ℕ) (x : Result X ℕ) → 257 ≤ m → 257 ≤ n → x ≡ cond (long m n) x (Err 10)
-long_told m n x lm ln = sym (cond-true (long m n) x (Err 10) (and_from _ _ (le-leb 257 m lm) (le-leb 257 n ln)))
-
--- THE QUESTION OF A JOB
-module _ (rule : Rule) (b : Book) (x : Result Job ℕ) (j : Job) (q : Question) (found : Ok j ≡ x) (puts : q ≡ question_of rule b j) where
-  pub late_told : (m n late : ℕ) → late ≡ late_of_question q → 257 ≤ m → 257 ≤ n → Ok late ≡ cond (long m n) (rounded_of rule b x) (Err 10)
-  unfolding rounded_late
-  late_told m n late is lm ln =
-      ap Ok (is ∙ ap late_of_question puts) ∙ ap (rounded_of rule b) found ∙ long_told m n (rounded_of rule b x) lm ln
-
-  module _ {K : Type 0} (o : Ops K) where
-    pub heavy_told : o.top (weight_of_all o q) ≡ true → Err 13 ≡ light o rule b x
-    heavy_told top = sym (cond-true (o.top (weight_of_all o (question_of rule b j))) (Err 13) (Ok j) (ap (λ y. o.top (weight_of_all o y)) (sym puts) ∙ top)) ∙ ap (light o rule b) found
-
-    pub light_told : o.top (weight_of_all o q) ≡ false → Ok j ≡ light o rule b x
-    light_told low = sym (cond-false (o.top (weight_of_all o (question_of rule b j))) (Err 13) (Ok j) (ap (λ y. o.top (weight_of_all o y)) (sym puts) ∙ low)) ∙ ap (light o rule b) found
-
--- THE QUESTION OF A ROUND
-pub batch_ready : (p : Plan) (place round : ℕ) (x : Batch) → IsBatch (plan_book p) place round x → Ready (plan_book p) x
-batch_ready p place round x is =
-    let b = plan_book p in
-    let e = entry_of x.task in
-    let n = round_jobs b e in
-    let At : ℕ → Type 0 = λ q. get_or b.places q None ≡ Some e in
-    let In : ℕ → ℕ → ℕ → Type 0 = λ q f m. all_within b q e f m ≡ true in
-    let Few : ℕ → Type 0 = λ m. m ≤ 512 in
-    let Jobs : ℕ → Type 0 = λ m. m ≤ 64 in
-    record {
-      held = subst At (sym is.place_is) is.at_place;
-      inside = subst (λ q. In q x.first x.jobs) (sym is.place_is) (subst (λ f. In place f x.jobs) (sym is.first_is) (subst (In place (round * n)) (sym is.jobs_is) is.inside));
-      first_small = subst Few (sym is.first_is) (plan_sized p place e is.at_place round (hyperperiod b.places) is.round_low refl).first_small;
-      few = subst Jobs (sym is.jobs_is) is.jobs_high;
-    }
-
-pub batch_answer : (rule : Rule) (b : Book) (place round : ℕ) (x : Batch) (late m n : ℕ) → IsBatch b place round x → late ≡ late_sum rule b x.place (entry_of x.task) x.first x.jobs → 257 ≤ m → 257 ≤ n → Ok (record { jobs = x.jobs; late = late }) ≡ task_answer rule b place round m n
-batch_answer rule b place round x late m n is sum lm ln =
-    let e = entry_of x.task in
-    let k = round_jobs b e in
-    let late_is = sum ∙ ap (λ q. late_sum rule b q e x.first x.jobs) is.place_is ∙ ap (λ f. late_sum rule b place e f x.jobs) is.first_is ∙ ap (late_sum rule b place e (round * k)) is.jobs_is in
-    let made : ℕ → ℕ → Result TaskLateness ℕ = λ i l. Ok (record { jobs = i; late = l }) in
-    ap (λ i. made i late) is.jobs_is ∙ ap (made k) late_is
-    ∙ sym (ap (task_of rule b place round) is.at_place
-    ∙ cond-true (ltb round b.rounds) _ (Err 11) (lt-ltb round b.rounds is.round_low)
-    ∙ cond-true (all_within b place e (round * k) k) _ (Err 12) is.inside)
-    ∙ long_told m n (task_of rule b place round (get_or b.places place None)) lm ln
 
 pub batch_covers : (p : Plan) (place round : ℕ) (x : Batch) → IsBatch (plan_book p) place round x → (e : Entry) → get_or (plan_book p).places place None ≡ Some e → ReleasedIn (plan_book p) e round (round * x.jobs) x.jobs
 batch_covers p place round x is e at =
