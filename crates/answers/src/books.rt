@@ -1,85 +1,32 @@
 //! What is shown of a draft and of a plan.
-ghost use Rattle.std.specs.Prelude.{◌≡◌, ◌++◌, None, OnOk, slice_index_or};
+ghost use Rattle.std.specs.Prelude.{◌≡◌, ◌++◌, OnOk};
 ghost use Rattle.book.specs.Drafts.{draft_book, plan_book};
-ghost use Rattle.board.specs.Model.{Book};
-ghost use Rattle.board.specs.Places.{place_of};
-ghost use Rattle.board.specs.Tables.{table_pairs};
 ghost use Rattle.answers.specs.Books.{places_text, book_text, draft_text, plan_text};
 
 use crate::tasks::{write_place, write_table};
-use book::{Draft, Plan, Task, TimeTable};
+use book::{Draft, Plan};
 use std::alloc::AllocError;
 use texts::{write_field, write_text};
 
-/// A book whose content can be read: a draft or a plan.
-trait Shown {
-    /// The book that is shown.
-    ghost shown: { Self → Book };
-
-    /// The task at a place.
-    fn task_at(&self, place: u8) -> Option<Task>
-        ensures { place_of result ≡ slice_index_or (shown self.now).places place None };
-
-    /// The opening table.
-    fn opening(&self) -> TimeTable
-        ensures { table_pairs result ≡ (shown self.now).opening };
-
-    /// How many rounds the window has.
-    fn rounds(&self) -> u8
-        ensures { result ≡ (shown self.now).rounds };
-}
-
-impl Shown for Draft {
-    ghost shown = { draft_book };
-
-    fn task_at(&self, place: u8) -> Option<Task> {
-        self.entry(place)
-    }
-
-    fn opening(&self) -> TimeTable {
-        self.opening_table()
-    }
-
-    fn rounds(&self) -> u8 {
-        self.round_count()
-    }
-}
-
-impl Shown for Plan {
-    ghost shown = { plan_book };
-
-    fn task_at(&self, place: u8) -> Option<Task> {
-        self.entry(place)
-    }
-
-    fn opening(&self) -> TimeTable {
-        self.opening_table()
-    }
-
-    fn rounds(&self) -> u8 {
-        self.round_count()
-    }
-}
-
-/// Writes the lines of the tasks of a book, by rising place.
-fn write_places<B: Shown>(book: &B, out: &mut Vec<u8>) -> Result<(), AllocError>
-    ensures { OnOk result (out.new.items ≡ out.old.items ++ places_text (B.shown book.now).places) }
+/// Writes the lines of the tasks of a draft, by rising place.
+fn write_places(draft: &Draft, out: &mut Vec<u8>) -> Result<(), AllocError>
+    ensures { OnOk result (out.new.items ≡ out.old.items ++ places_text (draft_book draft.now).places) }
 {
     for place in 0..16 {
-        write_place(place, book.task_at(place), out)?;
+        write_place(place, draft.entry(place), out)?;
     }
     Ok(())
 }
 
-/// Writes a first line, and what a book holds.
-fn write_book<B: Shown>(first: &[u8], book: &B, out: &mut Vec<u8>) -> Result<(), AllocError>
-    ensures { OnOk result (out.new.items ≡ out.old.items ++ book_text first.now (B.shown book.now)) }
+/// Writes a first line, and what a draft holds.
+fn write_book(first: &[u8], draft: &Draft, out: &mut Vec<u8>) -> Result<(), AllocError>
+    ensures { OnOk result (out.new.items ≡ out.old.items ++ book_text first.now (draft_book draft.now)) }
 {
-    let opening = book.opening();
+    let opening = draft.opening_table();
     write_text(first, out)?;
-    write_field(b"rounds ", book.rounds() as u64, out)?;
+    write_field(b"rounds ", draft.round_count() as u64, out)?;
     write_table(b" opening", opening.pairs(), out)?;
-    write_places(book, out)?;
+    write_places(draft, out)?;
     Ok(())
 }
 
@@ -95,6 +42,6 @@ pub fn write_draft(draft: &Draft, out: &mut Vec<u8>) -> Result<(), AllocError>
 pub fn write_plan(plan: &Plan, out: &mut Vec<u8>) -> Result<(), AllocError>
     ensures { OnOk result (out.new.items ≡ out.old.items ++ plan_text (plan_book plan.now)) }
 {
-    write_book(b"plan\n", plan, out)?;
+    write_book(b"plan\n", plan.draft(), out)?;
     Ok(())
 }

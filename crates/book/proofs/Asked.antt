@@ -1,10 +1,10 @@
 -- The job that a question asks for, where the book has it.
-use Rattle.std.proofs.Common.{◌≡◌, ℕ, ◌+◌, ◌-◌, ◌*◌, ◌%◌, ◌<◌, ◌≤◌, true, ltb, List, length, get_or, Some, None, Ok, Err, Option, sym, ap, ◌∙◌, subst, arith}
+use Rattle.std.proofs.Common.{◌≡◌, ℕ, ◌+◌, ◌-◌, ◌*◌, ◌%◌, ◌≤◌, true, List, length, get_or, Some, None, Option, sym, ap, ◌∙◌, subst, arith}
 use native.Mathlib.Nat.{mul-mod_left}
-use Rattle.std.proofs.lemmas.Bool.{cond-true, lt-ltb, le-leb, eq-eqb, and_from}
-use Rattle.board.specs.Model.{Entry, Book, window}
-use Rattle.board.specs.Jobs.{due, releases, release_of, job_within, asked}
-use Rattle.book.specs.Asks.{within, granted, job_at}
+use Rattle.std.proofs.lemmas.Bool.{le-leb, eq-eqb, and_from}
+use Rattle.board.specs.Model.{Entry}
+use Rattle.board.specs.Jobs.{due, releases, release_of}
+use Rattle.book.specs.Asks.{job_at}
 use Rattle.board.specs.Found.{Stands}
 use Rattle.board.specs.Standing.{stands}
 use Rattle.board.proofs.Standing.{held_low, stands_true}
@@ -14,12 +14,6 @@ released_at e i =
     let d : e.phase + i * e.period - e.phase ≡ i * e.period = omega arith in
     and_from _ _ (le-leb e.phase (e.phase + i * e.period) (omega arith))
     (eq-eqb _ 0 (ap (λ n. n % e.period) d ∙ mul-mod_left i e.period))
-
-pub granted_in : (b : Book) (place i : ℕ) (e : Entry) → get_or b.places place None ≡ Some e → release_of e i < window b → due (job_at place e i) ≤ window b → Ok (job_at place e i) ≡ granted b (asked b place i)
-granted_in b place i e is early soon =
-    sym (ap (λ x. granted b (job_within (window b) place i x)) is
-    ∙ ap (granted b) (cond-true (ltb (release_of e i) (window b)) (Some (job_at place e i)) None (lt-ltb (release_of e i) (window b) early))
-    ∙ cond-true (within b (job_at place e i)) (Ok (job_at place e i)) (Err 12) (le-leb (due (job_at place e i)) (window b) soon))
 
 pub stands_in : (ps : List (Option Entry)) (place i : ℕ) (e : Entry) → length ps ≡ 16 → get_or ps place None ≡ Some e → due (job_at place e i) ≤ 32768 → 1 ≤ e.deadline → Stands ps (job_at place e i)
 stands_in ps place i e long is soon pos =

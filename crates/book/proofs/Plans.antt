@@ -1,117 +1,77 @@
 -- What a plan says of the task at a place, as its questions read it.
-use Rattle.std.proofs.Common.{◌≡◌, ℕ, ◌+◌, ◌*◌, ◌<◌, ◌≤◌, true, false, cond, ltb, length, get_or, Some, None, Ok, Err, Option, Result, sym, refl, ap, ◌∙◌, subst, le_trans, add-one, arith}
-use Rattle.std.specs.Result.{result_ok}
-use Rattle.std.proofs.lemmas.Bool.{leb-true, le-leb, lt-ltb, and_from, cond-true, cond-false}
+use Rattle.std.proofs.Common.{◌≡◌, ℕ, ◌/◌, suc, refl, Err, ◌+◌, ◌-◌, ◌*◌, ◌<◌, ◌≤◌, true, length, get_or, Some, None, sym, ap, ◌∙◌, subst, arith}
+use Rattle.std.proofs.lemmas.Bool.{leb-true}
 use Rattle.board.specs.declared.tasks.Task.{Task}
-use Rattle.book.specs.declared.refusals.Refusal.{Refusal}
 use Rattle.book.specs.declared.drafts.plans.Plan.{Plan}
 use Rattle.book.specs.declared.batches.Batch.{Batch}
-use Rattle.book.specs.declared.lateness.TaskLateness.{TaskLateness}
 use Rattle.book.specs.Drafts.{plan_book}
 use Rattle.board.specs.Model.{Entry, Book, hyperperiod, window}
-use Rattle.board.specs.Jobs.{Rule, Job, due, release_of}
+use Rattle.board.specs.Jobs.{Rule, due, release_of}
 use Rattle.board.specs.Standing.{stands}
-use Rattle.theory.specs.Semiring.{Ops}
-use Rattle.scenarios.specs.Questions.{Question, weight_of_all}
-use Rattle.scenarios.specs.Walks.{rounded_late as late_of_question}
-use Rattle.board.specs.Questions.{question_of}
 use Rattle.book.specs.Batches.{IsBatch, Ready}
-use Rattle.board.specs.Places.{place_of, entry_of}
-use Rattle.book.specs.Asks.{rounded_late, rounded_of, light, ReleasedIn, round_jobs, job_at, late_sum, long, all_within, task_of, task_answer}
+use Rattle.board.specs.Places.{entry_of}
+use Rattle.book.specs.Asks.{rounded_late, task_of, ReleasedIn, round_jobs, job_at, late_sum}
 use Rattle.board.proofs.Records.{entries_lawful, entries_long}
 use Rattle.board.proofs.At.{Ranges, ranges_at}
 use Rattle.book.proofs.Asked.{stands_at}
 use Rattle.book.proofs.Window.{window_high}
-use Rattle.book.proofs.Rounds.{Sized, sized, released_in, each_inside}
+use Rattle.book.proofs.Rounds.{Sized, sized, released_in, each_inside, task_outside, round_inside, round_outside}
 
--- the task that `ok_or` and `?` have given
-pub given_entry : (x : Option Entry) (r : Option Task) (q : Result Task Refusal) (t : Task) → place_of r ≡ x → r ≡ result_ok q → q ≡ Ok t → x ≡ Some (entry_of t)
-given_entry x r q t at back was = sym at ∙ ap place_of (back ∙ ap result_ok was)
+pub plan_long : (p : Plan) → length (plan_book p).places ≡ 16
+plan_long p = entries_long p.draft.entries
 
 module _ (p : Plan) (place : ℕ) (e : Entry) (is : get_or (plan_book p).places place None ≡ Some e) where
   pub plan_ranges : Ranges e
   plan_ranges = ranges_at (plan_book p).places place e (entries_lawful p.draft.entries) (sym is)
 
-  pub plan_sized : (round h : ℕ) → round < p.draft.rounds → h ≡ hyperperiod (plan_book p).places → Sized (plan_book p) e round h
-  plan_sized round h = sized (plan_book p) place e round h p.draft.sound is
+  -- job k with its release r stands in the book
+  pub plan_stands : (k r : ℕ) → r ≡ release_of e k → r + e.deadline ≤ 32768 → stands (plan_book p).places (record { place = place; entry = e; release = r }) ≡ true
+  plan_stands k r same soon = stands_at (plan_book p).places place k r e (plan_long p) is same (omega (arith, same)) plan_ranges.deadline_low
 
   pub plan_released : (round : ℕ) → ReleasedIn (plan_book p) e round (round * round_jobs (plan_book p) e) (round_jobs (plan_book p) e)
   plan_released round = released_in (plan_book p) place e round p.draft.sound is
 
--- the same of the task that `ok_or` and `?` have given
-pub given_sized : (p : Plan) (place round h : ℕ) (r : Option Task) (q : Result Task Refusal) (t : Task) → place_of r ≡ get_or (plan_book p).places place None → r ≡ result_ok q → q ≡ Ok t → round < p.draft.rounds → h ≡ hyperperiod (plan_book p).places → Sized (plan_book p) (entry_of t) round h
-given_sized p place round h r q t at back was = plan_sized p place (entry_of t) (given_entry _ r q t at back was) round h
-
-pub plan_long : (p : Plan) → length (plan_book p).places ≡ 16
-plan_long p = entries_long p.draft.entries
-
 -- one more job of a round
-pub late_more : (rule : Rule) (b : Book) (place : ℕ) (e : Entry) (from i : ℕ) → late_sum rule b place e from (i + 1) ≡ late_sum rule b place e from i + rounded_late rule b (job_at place e (from + i))
-late_more rule b place e from i = rw add-one
+pub late_more : (rule : Rule) (b : Book) (place : ℕ) (e : Entry) (from k late one : ℕ) → from ≤ k → late ≡ late_sum rule b place e from (k - from) → one ≡ rounded_late rule b (job_at place e k) → late + one ≡ late_sum rule b place e from (k + 1 - from)
+late_more rule b place e from k late one le sum is =
+    let next : k + 1 - from ≡ suc (k - from) = omega arith in
+    let at : from + (k - from) ≡ k = omega arith in
+    rw (next, at, sum, is)
 
 -- a job of a ready batch stands in the book
-module _ (p : Plan) (x : Batch) (i r : ℕ) (ready : Ready (plan_book p) x) (lt : i < x.jobs) (is : r ≡ release_of (entry_of x.task) (x.first + i)) where
-  ready_soon : due (job_at x.place (entry_of x.task) (x.first + i)) ≤ 32768
-  ready_soon =
-      let b = plan_book p in
-      let e = entry_of x.task in
-      let j = job_at x.place e (x.first + i) in
-      le_trans (leb-true (due j) (window b) (each_inside b x.place e x.first x.jobs i lt ready.inside)) (window_high b.places b.rounds p.draft.sound)
-
-  pub ready_stands : stands (plan_book p).places (record { place = x.place; entry = entry_of x.task; release = r }) ≡ true
-  ready_stands =
-      let e = entry_of x.task in
-      stands_at (plan_book p).places x.place (x.first + i) r e (plan_long p) ready.held is ready_soon (plan_ranges p x.place e ready.held).deadline_low
-
-  pub ready_low : r ≤ 32768
-  ready_low = omega (arith, ready_soon)
-
--- sheets that are long enough leave the answer as it is
-pub long_told : {X : Type 0} (m n : ℕ) (x : Result X ℕ) → 257 ≤ m → 257 ≤ n → x ≡ cond (long m n) x (Err 10)
-long_told m n x lm ln = sym (cond-true (long m n) x (Err 10) (and_from _ _ (le-leb 257 m lm) (le-leb 257 n ln)))
-
--- THE QUESTION OF A JOB
-module _ (rule : Rule) (b : Book) (x : Result Job ℕ) (j : Job) (q : Question) (found : Ok j ≡ x) (puts : q ≡ question_of rule b j) where
-  pub late_told : (m n late : ℕ) → late ≡ late_of_question q → 257 ≤ m → 257 ≤ n → Ok late ≡ cond (long m n) (rounded_of rule b x) (Err 10)
-  unfolding rounded_late
-  late_told m n late is lm ln =
-      ap Ok (is ∙ ap late_of_question puts) ∙ ap (rounded_of rule b) found ∙ long_told m n (rounded_of rule b x) lm ln
-
-  module _ {K : Type 0} (o : Ops K) where
-    pub heavy_told : o.top (weight_of_all o q) ≡ true → Err 13 ≡ light o rule b x
-    heavy_told top = sym (cond-true (o.top (weight_of_all o (question_of rule b j))) (Err 13) (Ok j) (ap (λ y. o.top (weight_of_all o y)) (sym puts) ∙ top)) ∙ ap (light o rule b) found
-
-    pub light_told : o.top (weight_of_all o q) ≡ false → Ok j ≡ light o rule b x
-    light_told low = sym (cond-false (o.top (weight_of_all o (question_of rule b j))) (Err 13) (Ok j) (ap (λ y. o.top (weight_of_all o y)) (sym puts) ∙ low)) ∙ ap (light o rule b) found
-
--- THE QUESTION OF A ROUND
-pub batch_ready : (p : Plan) (place round : ℕ) (x : Batch) → IsBatch (plan_book p) place round x → Ready (plan_book p) x
-batch_ready p place round x is =
+pub ready_stands : (p : Plan) (x : Batch) (k r : ℕ) → Ready (plan_book p) x → x.first ≤ k → k < x.first + x.jobs → r ≡ release_of (entry_of x.task) k → stands (plan_book p).places (record { place = x.place; entry = entry_of x.task; release = r }) ≡ true
+ready_stands p x k r ready from to same =
     let b = plan_book p in
     let e = entry_of x.task in
-    let n = round_jobs b e in
-    let At : ℕ → Type 0 = λ q. get_or b.places q None ≡ Some e in
-    let In : ℕ → ℕ → ℕ → Type 0 = λ q f m. all_within b q e f m ≡ true in
-    let Few : ℕ → Type 0 = λ m. m ≤ 512 in
-    let Jobs : ℕ → Type 0 = λ m. m ≤ 64 in
-    record {
-      held = subst At (sym is.place_is) is.at_place;
-      inside = subst (λ q. In q x.first x.jobs) (sym is.place_is) (subst (λ f. In place f x.jobs) (sym is.first_is) (subst (In place (round * n)) (sym is.jobs_is) is.inside));
-      first_small = subst Few (sym is.first_is) (plan_sized p place e is.at_place round (hyperperiod b.places) is.round_low refl).first_small;
-      few = subst Jobs (sym is.jobs_is) is.jobs_high;
-    }
+    let inside : due (job_at x.place e k) ≤ window b = leb-true (due (job_at x.place e k)) (window b) (each_inside b x.place e x.first x.jobs k from to ready.inside) in
+    plan_stands p x.place e ready.held k r same (omega (arith, window_high b.places b.rounds p.draft.sound))
 
-pub batch_answer : (rule : Rule) (b : Book) (place round : ℕ) (x : Batch) (late m n : ℕ) → IsBatch b place round x → late ≡ late_sum rule b x.place (entry_of x.task) x.first x.jobs → 257 ≤ m → 257 ≤ n → Ok (record { jobs = x.jobs; late = late }) ≡ task_answer rule b place round m n
-batch_answer rule b place round x late m n is sum lm ln =
-    let e = entry_of x.task in
-    let k = round_jobs b e in
-    let late_is = sum ∙ ap (λ q. late_sum rule b q e x.first x.jobs) is.place_is ∙ ap (λ f. late_sum rule b place e f x.jobs) is.first_is ∙ ap (late_sum rule b place e (round * k)) is.jobs_is in
-    let made : ℕ → ℕ → Result TaskLateness ℕ = λ i l. Ok (record { jobs = i; late = l }) in
-    ap (λ i. made i late) is.jobs_is ∙ ap (made k) late_is
-    ∙ sym (ap (task_of rule b place round) is.at_place
-    ∙ cond-true (ltb round b.rounds) _ (Err 11) (lt-ltb round b.rounds is.round_low)
-    ∙ cond-true (all_within b place e (round * k) k) _ (Err 12) is.inside)
-    ∙ long_told m n (task_of rule b place round (get_or b.places place None)) lm ln
+-- A ROUND OF THE TASK AT A PLACE, with the hyperperiod h, the release r of the last job and the end w of the window that the code has computed
+module _ (p : Plan) (place round h : ℕ) (t : Task) (is : get_or (plan_book p).places place None ≡ Some (entry_of t)) (same : h ≡ hyperperiod (plan_book p).places) where
+  pub round_sized : Sized (plan_book p) (entry_of t) h
+  round_sized = sized (plan_book p) place (entry_of t) h p.draft.sound is same
+
+  module _ (r w : ℕ) (last : r ≡ release_of (entry_of t) (round * (h / t.period) + h / t.period - 1)) (end : w ≡ window (plan_book p)) (low : round < p.draft.rounds) where
+    pub batch_late : w < r + t.deadline → (rule : Rule) → task_of rule (plan_book p) place round (get_or (plan_book p).places place None) ≡ Err 12
+    batch_late late rule =
+        let s = round_sized in
+        task_outside (plan_book p) place (entry_of t) round rule is low (round_outside (plan_book p) place (entry_of t) round (h / t.period) r w s.jobs_is s.some last end late)
+
+    pub batch_is : r + t.deadline ≤ w → IsBatch (plan_book p) place round (record { place = place; task = t; first = round * (h / t.period); jobs = h / t.period })
+    batch_is soon =
+        let s = round_sized in
+        let P : ℕ → Type 0 = λ n. (1 ≤ n) × (n ≤ 64) in
+        let few = subst P s.jobs_is (s.some, s.few) in
+        record {
+          place_is = refl;
+          at_place = is;
+          round_low = low;
+          jobs_is = s.jobs_is;
+          first_is = ap (λ n. round * n) s.jobs_is;
+          inside = round_inside (plan_book p) place (entry_of t) round (h / t.period) r w s.jobs_is s.some last end soon;
+          jobs_low = few.0;
+          jobs_high = few.1;
+        }
 
 pub batch_covers : (p : Plan) (place round : ℕ) (x : Batch) → IsBatch (plan_book p) place round x → (e : Entry) → get_or (plan_book p).places place None ≡ Some e → ReleasedIn (plan_book p) e round (round * x.jobs) x.jobs
 batch_covers p place round x is e at =

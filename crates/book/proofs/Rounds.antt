@@ -1,5 +1,5 @@
 -- The jobs of one task that a round releases.
-use Rattle.std.proofs.Common.{◌≡◌, ℕ, zero, suc, ◌+◌, ◌-◌, ◌*◌, ◌/◌, ◌%◌, ◌<◌, ◌≤◌, true, false, eqb, ltb, List, [], ◌∷◌, get_or, Some, None, Err, Option, sym, refl, ap, ◌∙◌, subst, le_trans, mul-le-mul_right, mul_assoc, add-mul, mul-le-mul, one-mul, div-add-mod', zero-mul, arith}
+use Rattle.std.proofs.Common.{◌≡◌, ℕ, zero, suc, ◌+◌, ◌-◌, ◌*◌, ◌/◌, ◌%◌, ◌<◌, ◌≤◌, true, false, eqb, ltb, List, [], ◌∷◌, get_or, Some, None, Err, Option, sym, refl, ap, ◌∙◌, subst, le_trans, mul-le-mul_right, mul_assoc, add-mul, one-mul, div-add-mod', zero-mul, arith}
 use Rattle.std.proofs.lemmas.Bool.{and_parts, and_from, and_right, eqb-true, leb-true, le-leb, lt-leb, lt-ltb, cond-true, cond-false}
 use Rattle.board.specs.Model.{Entry, Book, divided, hyperperiod, jobs, book_lawful, window}
 use Rattle.board.specs.Jobs.{Rule, due, release_of}
@@ -52,39 +52,16 @@ in_round b place e ok is =
       fills = fills;
     }
 
--- the number of the last job of a round is small
-last_small : (round n rounds : ℕ) → round < rounds → rounds ≤ 8 → n ≤ 64 → round * n + n - 1 ≤ 512
-last_small round n rounds l r h =
-    let m : round * n ≤ 7 * 64 = mul-le-mul {n₁ = round} {m₁ = n} {n₂ = 7} {m₂ = 64} (omega arith) h in
-    omega arith
-
--- what the code needs of the numbers of a round, from the hyperperiod h that it has computed
-pub record Sized (b : Book) (e : Entry) (round h : ℕ) : Type 0 where
+-- the number of jobs in a round, from the hyperperiod h that the code has computed
+pub record Sized (b : Book) (e : Entry) (h : ℕ) : Type 0 where
   pub jobs_is : h / e.period ≡ round_jobs b e
   pub some : 1 ≤ h / e.period
   pub few : h / e.period ≤ 64
-  pub index_small : round * (h / e.period) + h / e.period - 1 ≤ 512
-  pub first_small : round * (h / e.period) ≤ 512
 
-sized_at : (b : Book) (place : ℕ) (e : Entry) (round : ℕ) → book_lawful b.places b.rounds ≡ true → get_or b.places place None ≡ Some e → round < b.rounds → Sized b e round (hyperperiod b.places)
-sized_at b place e round ok is lt =
+pub sized : (b : Book) (place : ℕ) (e : Entry) (h : ℕ) → book_lawful b.places b.rounds ≡ true → get_or b.places place None ≡ Some e → h ≡ hyperperiod b.places → Sized b e h
+sized b place e h ok is same =
     let i = in_round b place e ok is in
-    let l = limits b.places b.rounds ok in
-    let n = round_jobs b e in
-    let last = last_small round n b.rounds lt l.rounds_high i.high in
-    record {
-      jobs_is = refl;
-      some = i.low;
-      few = i.high;
-      index_small = last;
-      first_small = earlier (round * n) n i.low last;
-    }
-  where
-    earlier : (x n : ℕ) → 1 ≤ n → x + n - 1 ≤ 512 → x ≤ 512
-    earlier x n l h = omega arith
-
-pub sized : (b : Book) (place : ℕ) (e : Entry) (round h : ℕ) → book_lawful b.places b.rounds ≡ true → get_or b.places place None ≡ Some e → round < b.rounds → h ≡ hyperperiod b.places → Sized b e round h
-sized b place e round h ok is lt same = subst (Sized b e round) (sym same) (sized_at b place e round ok is lt)
+    subst (Sized b e) (sym same) (record { jobs_is = refl; some = i.low; few = i.high })
 
 -- what is within the window is so for the jobs before
 module _ (b : Book) (place : ℕ) (e : Entry) where
@@ -113,11 +90,10 @@ module _ (b : Book) (place : ℕ) (e : Entry) where
       let same : from + suc n - 1 ≡ from + n = omega arith in
       and_right (all_within b place e from n) _ (ap (λ i. within b (job_at place e i)) (sym same) ∙ miss)
 
-  pub each_inside : (from n i : ℕ) → i < n → all_within b place e from n ≡ true → within b (job_at place e (from + i)) ≡ true
-  each_inside from zero i h ok = absurd (omega arith)
-  each_inside from (suc n) i h ok =
-      let parts = and_parts (all_within b place e from n) (within b (job_at place e (from + n))) ok in
-      within_before (from + i) (from + n) (omega arith) parts.1
+  pub each_inside : (from n k : ℕ) → from ≤ k → k < from + n → all_within b place e from n ≡ true → within b (job_at place e k) ≡ true
+  each_inside from zero k l h ok = absurd (omega arith)
+  each_inside from (suc n) k l h ok =
+      within_before k (from + n) (omega arith) (and_parts (all_within b place e from n) (within b (job_at place e (from + n))) ok).1
 
 -- THE JOBS OF A ROUND
 below_block : (p f i m : ℕ) → f < p → i < m → f + i * p < m * p

@@ -35,7 +35,7 @@ fn draw_place(g: &mut Generator, plan: &Plan) -> u8 {
     let start = g.below(16) as u8;
     for by in 0..16u8 {
         let place = start.saturating_add(by) % 16;
-        if plan.entry(place).is_some() {
+        if plan.draft().entry(place).is_some() {
             return place;
         }
     }

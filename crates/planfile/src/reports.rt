@@ -19,7 +19,7 @@ fn write_place(page: &mut Page, plan: &Plan, place: u8)
     ensures writes { text page.new ≡ text page.old ++ place_line (plan_book plan.now) place (slice_index_or (plan_book plan.now).places place None) }
     ensures short { length (text page.new) ≤ length (text page.old) + 15 }
 {
-    let Some(_) = plan.entry(place) else {
+    let Some(_) = plan.draft().entry(place) else {
         return;
     };
     let mut answer = [Count::new(0); 257];

@@ -47,9 +47,7 @@ impl Draft {
         if deadline == 0 || deadline > 254 {
             return Err(Refusal::Deadline);
         }
-        let Some(table) = TimeTable::new(table) else {
-            return Err(Refusal::Table);
-        };
+        let table = TimeTable::new(table).ok_or(Refusal::Table)?;
         let mut next = self.entries;
         let task = Task {
             period,
@@ -97,10 +95,7 @@ impl Draft {
         ensures answers { answer result ≡ opening_refusal table.now }
         ensures leaves { draft_book self.new ≡ with_opening (draft_book self.old) table.now }
     {
-        let Some(table) = TimeTable::new(table) else {
-            return Err(Refusal::Table);
-        };
-        self.opening = table;
+        self.opening = TimeTable::new(table).ok_or(Refusal::Table)?;
         Ok(())
     }
 

@@ -4,12 +4,13 @@ ghost use Rattle.analysis.specs.Cells.{cells};
 ghost use Rattle.kinds.specs.Counts.{count_ops};
 ghost use Rattle.book.specs.Drafts.{plan_book};
 ghost use Rattle.board.specs.Jobs.{asked};
-ghost use Rattle.board.specs.Found.{job_of, Stands};
+ghost use Rattle.board.specs.Found.{job_of};
 ghost use Rattle.book.specs.Granted.{granted_job, AskedIn};
 ghost use Rattle.book.specs.Asks.{granted, rounded_answer, swept};
 ghost use Rattle.book.specs.Refusals.{told};
 
 use crate::drafts::plans::Plan;
+use crate::drafts::plans::sheets::check_sheets;
 use crate::refusals::Refusal;
 use analysis::{Count, Ranking, clear};
 use board::{Asked, Job};
@@ -18,10 +19,9 @@ impl Plan {
     /// Job `index` of the task at a place, if the window has it and its deadline.
     pub(super) fn job(&self, place: u8, index: u32) -> Result<Asked, Refusal>
         ensures finds { granted_job result ≡ granted (plan_book self.now) (asked (plan_book self.now) place index) }
-        ensures stands { IfOk result (λ a. Stands (plan_book self.now).places (job_of a.job)) }
         ensures in_book { IfOk result (AskedIn (plan_book self.now)) }
     {
-        let task = self.entry(place).ok_or(Refusal::NoJob)?;
+        let task = self.draft.entry(place).ok_or(Refusal::NoJob)?;
         let end = self.window() as u64;
         let release = task.release_of(index);
         if release >= end {
@@ -57,9 +57,7 @@ impl Plan {
         ensures leaves_work { cells count_ops work.new ≡ swept count_ops (told result) (cells count_ops work.old) }
         ensures small { IfOk result (λ late. late ≤ 1048576) }
     {
-        if answer.len() < 257 || work.len() < 257 {
-            return Err(Refusal::Sheet);
-        }
+        check_sheets(answer, work)?;
         let job = self.job(place, index)?;
         let late = job.rounded_late(rule, answer)?;
         clear(work)?;

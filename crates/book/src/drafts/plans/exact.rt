@@ -4,11 +4,12 @@ ghost use Rattle.analysis.specs.Cells.{cells};
 ghost use Rattle.book.specs.Drafts.{plan_book};
 ghost use Rattle.book.specs.Asks.{light, granted, response_answer, filled, swept, answered};
 ghost use Rattle.board.specs.Jobs.{asked};
-ghost use Rattle.board.specs.Found.{job_of, Stands};
+ghost use Rattle.board.specs.Found.{job_of};
 ghost use Rattle.book.specs.Granted.{granted_job, AskedIn};
 ghost use Rattle.book.specs.Refusals.{told};
 
 use crate::drafts::plans::Plan;
+use crate::drafts::plans::sheets::check_sheets;
 use crate::refusals::Refusal;
 use analysis::{Ranking, Weight, clear};
 use board::Asked;
@@ -22,7 +23,6 @@ impl Plan {
         index: u32,
     ) -> Result<Asked, Refusal>
         ensures finds { granted_job result ≡ light W.ops (R.Ranking.ranks rule.now) (plan_book self.now) (granted (plan_book self.now) (asked (plan_book self.now) place index)) }
-        ensures stands { IfOk result (λ a. Stands (plan_book self.now).places (job_of a.job)) }
         ensures in_book { IfOk result (AskedIn (plan_book self.now)) }
     {
         let job = self.job(place, index)?;
@@ -47,9 +47,7 @@ impl Plan {
         ensures leaves_answer { cells W.ops answer.new ≡ filled W.ops (R.Ranking.ranks rule.now) (plan_book self.now) (response_answer W.ops (R.Ranking.ranks rule.now) (plan_book self.now) place index (length answer.old) (length work.old)) (cells W.ops answer.old) }
         ensures leaves_work { cells W.ops work.new ≡ swept W.ops (told result) (cells W.ops work.old) }
     {
-        if answer.len() < 257 || work.len() < 257 {
-            return Err(Refusal::Sheet);
-        }
+        check_sheets(answer, work)?;
         let job = self.light_job::<W, R>(rule, place, index)?;
         job.exact(rule, answer)?;
         clear(work)?;

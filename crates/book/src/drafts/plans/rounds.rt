@@ -12,6 +12,7 @@ ghost use Rattle.book.specs.Refusals.{number, told};
 
 use crate::batches::Batch;
 use crate::drafts::plans::Plan;
+use crate::drafts::plans::sheets::check_sheets;
 use crate::lateness::TaskLateness;
 use crate::refusals::Refusal;
 use analysis::{Count, Ranking, SheetRefusal, clear};
@@ -22,7 +23,7 @@ impl Plan {
     fn batch(&self, place: u8, round: u32) -> Result<Batch, Refusal>
         ensures { MatchResult result (IsBatch (plan_book self.now) place round) (λ e. (rule : Rule) → task_of rule (plan_book self.now) place round (slice_index_or (plan_book self.now).places place None) ≡ Err (number e)) }
     {
-        let task = self.entry(place).ok_or(Refusal::NoJob)?;
+        let task = self.draft.entry(place).ok_or(Refusal::NoJob)?;
         if round >= self.draft.rounds as u32 {
             return Err(Refusal::NoJob);
         }
@@ -54,14 +55,14 @@ impl Plan {
     {
         clear(sheet)?;
         let mut late = 0;
-        for i in 0..batch.jobs {
+        for index in batch.first..batch.first + batch.jobs {
             let asked = Asked {
                 entries: self.draft.entries,
                 opening: self.draft.opening,
                 job: Job {
                     place: batch.place,
                     task: batch.task,
-                    release: batch.task.release_of(batch.first + i) as u32,
+                    release: batch.task.release_of(index) as u32,
                 },
             };
             late += asked.rounded_late(rule, sheet)?;
@@ -87,9 +88,7 @@ impl Plan {
         ensures small { IfOk result (λ x. (x.jobs ≤ 64) × (x.late ≤ 1048576 * x.jobs)) }
         ensures covers { IfOk result (λ x. (e : Entry) → slice_index_or (plan_book self.now).places place None ≡ Some e → ReleasedIn (plan_book self.now) e round (round * x.jobs) x.jobs) }
     {
-        if answer.len() < 257 || work.len() < 257 {
-            return Err(Refusal::Sheet);
-        }
+        check_sheets(answer, work)?;
         let batch = self.batch(place, round)?;
         let late = self.sum_late(rule, &batch, answer)?;
         clear(work)?;

@@ -15,7 +15,7 @@ returns-in-Ok c =
     let x = c.in-Ok.found in
     let before = text c.args.page.now in
     let k = c.in-Ok.ensures in
-    let is = place_line_is b p (get_or b.places p None) (entry_of c.in-Some.field-0) (Ok x) c.in-Some.ensures k.answers in
+    let is = place_line_is b p (get_or b.places p None) (entry_of c.in-Some.field-0) (Ok x) (c.in-Some.ensures ∙ ap (λ d. get_or d.places p None) c.draft.ensures) k.answers in
     record {
       writes = c.line.ensures ∙ ap (λ s. before ++ s) is;
       short = after _ before (line p x.jobs x.late) (length before) 15 c.line.ensures (omega arith) (answer_short p x.jobs x.late c.requires.listed k.small.0 k.small.1);
@@ -29,7 +29,7 @@ returns-in-Err c =
     let n = c.number.result in
     let before = text c.args.page.now in
     let k = c.in-Err.ensures in
-    let is = place_line_is b p (get_or b.places p None) (entry_of c.in-Some.field-0) (Err (number r)) c.in-Some.ensures k.answers in
+    let is = place_line_is b p (get_or b.places p None) (entry_of c.in-Some.field-0) (Err (number r)) (c.in-Some.ensures ∙ ap (λ d. get_or d.places p None) c.draft.ensures) k.answers in
     record {
       writes = c.refused_line.ensures ∙ (ap (λ m. before ++ refused_line p m) c.number.ensures ∙ ap (λ s. before ++ s) is);
       short = after _ before (refused_line p n) (length before) 15 c.refused_line.ensures (omega arith) (refused_short p n c.requires.listed (omega arith));

@@ -1,38 +1,9 @@
-use Rattle.std.proofs.Common.{◌<◌, ◌≤◌, Ok, refl, ap, ◌∙◌, arith}
-use Rattle.book.specs.Drafts.{plan_book}
-use Rattle.board.specs.Model.{window}
-use Rattle.board.specs.Jobs.{due, release_of}
-use Rattle.book.specs.Asks.{job_at}
-use Rattle.board.specs.Places.{entry_of}
-use Rattle.board.proofs.Records.{entries_lawful}
-use Rattle.board.proofs.Standing.{stands_is}
-use Rattle.book.proofs.Asked.{granted_in, stands_at}
-use Rattle.book.proofs.Plans.{given_entry, plan_long, plan_ranges}
+use Rattle.std.proofs.Common.{sym, ap, ◌∙◌, arith}
+use Rattle.board.specs.Places.{place_of, entry_of}
+use Rattle.book.proofs.Plans.{plan_stands}
 use Rattle.book.proofs.drafts.plans.Plan.job.Goals as goal
 
 pub invariant_of-result : goal.invariant_of-result
 invariant_of-result c =
-    let p = c.args.self.now in
-    let e = entry_of c.in_ok-task.task in
-    let i = c.args.index in
-    let place = c.args.place in
-    let is = given_entry _ _ _ _ c.entry.ensures c.ok_or.ensures.ok_part c.in_ok-task.was in
-    let soon : due (job_at place e i) ≤ 32768 = omega (arith, c.window-end.ensures.bound, c.release_of-release.ensures) in
-    record { sound = stands_at (plan_book p).places place i c.release_of-release.result e (plan_long p) is c.release_of-release.ensures soon (plan_ranges p place e is).deadline_low }
-
-pub returns : goal.returns
-returns c =
-    let p = c.args.self.now in
-    let b = plan_book p in
-    let e = entry_of c.in_ok-task.task in
-    let i = c.args.index in
-    let place = c.args.place in
-    let is = given_entry _ _ _ _ c.entry.ensures c.ok_or.ensures.ok_part c.in_ok-task.was in
-    let early : release_of e i < window b = omega (arith, c.window-end.ensures.is, c.release_of-release.ensures) in
-    let soon : due (job_at place e i) ≤ window b = omega (arith, c.window-end.ensures.is, c.release_of-release.ensures) in
-    let most : due (job_at place e i) ≤ 32768 = omega (arith, c.window-end.ensures.bound, c.release_of-release.ensures) in
-    record {
-      finds = ap (λ r. Ok (record { place = place; entry = e; release = r })) c.release_of-release.ensures ∙ granted_in b place i e is early soon;
-      stands = stands_is b.places (record { place = place; entry = e; release = c.release_of-release.result }) (plan_long p) (entries_lawful p.draft.entries) (stands_at b.places place i c.release_of-release.result e (plan_long p) is c.release_of-release.ensures most (plan_ranges p place e is).deadline_low);
-      in_book = λ rule. refl;
-    }
+    let is = sym c.entry.ensures ∙ ap place_of c.in_ok-task.ensures.ok_part in
+    record { sound = plan_stands c.args.self.now c.args.place (entry_of c.in_ok-task.task) is c.args.index c.release_of-release.result c.release_of-release.ensures (omega (arith, c.window-end.ensures.bound)) }
