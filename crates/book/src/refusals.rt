@@ -6,7 +6,7 @@ ghost use Rattle.book.specs.Refusals.{number};
 use analysis::SheetRefusal;
 
 /// Why a call is refused; each reason has the number by which it is told.
-#[derive(Clone, Copy)]
+#[derive(Clone, Copy, PartialEq, Eq, Debug)]
 pub enum Refusal {
     /// The place is above 15.
     Place = 1,
