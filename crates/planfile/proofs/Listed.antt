@@ -1,7 +1,7 @@
 -- One step of the loop over the contents.
-use Rattle.std.proofs.Common.{◌≡◌, ℕ, ◌+◌, ◌*◌, ◌<◌, ◌≤◌, true, false, eqb, List, [], ◌∷◌, ◌++◌, length, get_or, take, drop, set, Some, sym, ap, ◌∙◌, arith}
+use Rattle.std.proofs.Common.{◌≡◌, ℕ, ◌+◌, ◌*◌, ◌<◌, ◌≤◌, true, false, eqb, List, [], ◌∷◌, ◌++◌, length, get_or, take, drop, Some, sym, ap, ◌∙◌, arith}
 use Rattle.std.proofs.lemmas.List.FromFn.{length-map-range_with_len, get_or-map-range_with_len}
-use Rattle.std.proofs.lemmas.List.{at_drop_more, take_more, take_more_set}
+use Rattle.std.proofs.lemmas.List.{at_drop_more, take_more}
 use Rattle.std.proofs.lemmas.Bool.{eq-eqb, ne_eqb, cond-true, cond-false}
 use Rattle.planfile.specs.declared.contents.Entry.{Entry}
 use Rattle.planfile.specs.Faults.{file_fault}
@@ -53,25 +53,29 @@ module _ (f : List ℕ) (i end : ℕ) (lt : i < byte f 0) where
   taken : take (i + 1) (contents f) ≡ take i (contents f) ++ here ∷ []
   taken = take_more (contents f) i here in_contents ∙ ap (λ e. take i (contents f) ++ e ∷ []) (get_or_contents f i here lt)
 
-  pub stops : (before : List Entry) → before ≡ take i (contents f) → 1 ≤ entry_number f end before here → entries_fault f (1 + 5 * i) end (take i (contents f)) (drop i (contents f)) ≡ Some (file_fault (entry_number f end before here) (1 + 5 * i))
-  stops before is h =
+  pub stops : (held before : List Entry) → before ≡ held → 1 ≤ entry_number f end before here → entries_fault f (1 + 5 * i) end held (drop i (contents f)) ≡ Some (file_fault (entry_number f end before here) (1 + 5 * i))
+  stops held before is h =
       ap (λ b. entries_fault f (1 + 5 * i) end b (drop i (contents f))) (sym is)
       ∙ (dropped (entries_fault f (1 + 5 * i) end before) ∙ fault_here f (1 + 5 * i) end before here (drop (i + 1) (contents f)) h)
 
-  pub goes : (before : List Entry) → before ≡ take i (contents f) → entry_number f end before here ≡ 0
-      → entries_fault f (1 + 5 * i) end (take i (contents f)) (drop i (contents f)) ≡ entries_fault f (1 + 5 * (i + 1)) (body_end here) (take (i + 1) (contents f)) (drop (i + 1) (contents f))
-  goes before is h =
-      let at : 1 + 5 * i + 5 ≡ 1 + 5 * (i + 1) = omega arith in
-      let more : before ++ here ∷ [] ≡ take (i + 1) (contents f) = ap (λ b. b ++ here ∷ []) is ∙ sym taken in
-      ap (λ b. entries_fault f (1 + 5 * i) end b (drop i (contents f))) (sym is)
-      ∙ (dropped (entries_fault f (1 + 5 * i) end before)
-      ∙ (fault_later f (1 + 5 * i) end before here (drop (i + 1) (contents f)) h
-      ∙ (ap (λ a. entries_fault f a (body_end here) (before ++ here ∷ []) (drop (i + 1) (contents f))) at
-      ∙ ap (λ b. entries_fault f (1 + 5 * (i + 1)) (body_end here) b (drop (i + 1) (contents f))) more)))
+  module _ (held next : List Entry) (e : Entry) (same : e ≡ here) (pushed : next ≡ held ++ e ∷ []) where
+    pushed_here : next ≡ held ++ here ∷ []
+    pushed_here = pushed ∙ ap (λ x. held ++ x ∷ []) same
+
+    -- one more entry is held
+    pub held_goes : held ≡ take i (contents f) → next ≡ take (i + 1) (contents f)
+    held_goes q = pushed_here ∙ (ap (λ b. b ++ here ∷ []) q ∙ sym taken)
+
+    pub goes : (before : List Entry) → before ≡ held → entry_number f end before here ≡ 0
+        → entries_fault f (1 + 5 * i) end held (drop i (contents f)) ≡ entries_fault f (1 + 5 * (i + 1)) (body_end here) next (drop (i + 1) (contents f))
+    goes before is h =
+        let at : 1 + 5 * i + 5 ≡ 1 + 5 * (i + 1) = omega arith in
+        let more : before ++ here ∷ [] ≡ next = ap (λ b. b ++ here ∷ []) is ∙ sym pushed_here in
+        ap (λ b. entries_fault f (1 + 5 * i) end b (drop i (contents f))) (sym is)
+        ∙ (dropped (entries_fault f (1 + 5 * i) end before)
+        ∙ (fault_later f (1 + 5 * i) end before here (drop (i + 1) (contents f)) h
+        ∙ (ap (λ a. entries_fault f a (body_end here) (before ++ here ∷ []) (drop (i + 1) (contents f))) at
+        ∙ ap (λ b. entries_fault f (1 + 5 * (i + 1)) (body_end here) b (drop (i + 1) (contents f))) more)))
 
   pub end_goes : last_end end (drop i (contents f)) ≡ last_end (body_end here) (drop (i + 1) (contents f))
   end_goes = dropped (last_end end)
-
-  -- one more entry is held
-  pub held_goes : (held : List Entry) (e : Entry) → i < length held → take i held ≡ take i (contents f) → e ≡ here → take (i + 1) (set held i e) ≡ take (i + 1) (contents f)
-  held_goes held e l q is = take_more_set held i e l ∙ (ap (λ b. b ++ e ∷ []) q ∙ (ap (λ x. take i (contents f) ++ x ∷ []) is ∙ sym taken))

@@ -1,7 +1,7 @@
 -- One step over the pairs of a body, and over the bodies.
-use Rattle.std.proofs.Common.{◌≡◌, ℕ, ◌+◌, ◌*◌, ◌<◌, ◌≤◌, true, false, ◌&&◌, leb, ◌⊎◌, List, [], ◌∷◌, ◌++◌, length, get_or, take, drop, set, Some, None, Option, sym, refl, ap, ◌∙◌, ⊎_elim, arith}
+use Rattle.std.proofs.Common.{◌≡◌, ℕ, ◌+◌, ◌*◌, ◌<◌, ◌≤◌, true, false, cond, ◌&&◌, leb, ◌⊎◌, List, [], ◌∷◌, ◌++◌, length, get_or, take, drop, Some, None, Option, sym, refl, ap, ◌∙◌, ⊎_elim, arith}
 use Rattle.std.proofs.lemmas.List.FromFn.{length-map-range_with_len, get_or-map-range_with_len}
-use Rattle.std.proofs.lemmas.List.{at_drop_more, take_more, take_more_set}
+use Rattle.std.proofs.lemmas.List.{at_drop_more, take_more}
 use Rattle.std.proofs.lemmas.Bool.{and_parts, and_from, and_left, and_right, cond-true, cond-false, leb-true, le-leb, lt-leb}
 use Rattle.analysis.specs.declared.pair.Pair.{Pair}
 use Rattle.board.specs.Pairs.{rising, weighted}
@@ -18,6 +18,15 @@ pub get_or_pairs : (f : List ℕ) (at n i : ℕ) (d : Pair) → i < n → get_or
 unfolding pairs
 get_or_pairs f at n i d lt = get_or-map-range_with_len (λ k. pair f (at + 3 * k)) 0 n i i d lt (omega arith)
 
+-- a table of at most 16 pairs is held, and one of more as an empty one
+module _ (f : List ℕ) (at named : ℕ) (held : List Pair) where
+  pub table_held : named ≤ 16 → (n : ℕ) → named ≡ n → held ≡ pairs f at named → held ≡ cond (leb n 16) (pairs f at n) []
+  table_held le n is h = h ∙ (ap (pairs f at) is ∙ sym (cond-true (leb n 16) _ _ (le-leb n 16 (omega arith))))
+
+  pub table_empty : 16 < named → (n : ℕ) → named ≡ n → held ≡ pairs f at 0 → held ≡ cond (leb n 16) (pairs f at n) []
+  unfolding pairs
+  table_empty gt n is h = h ∙ sym (cond-false (leb n 16) _ _ (lt-leb n 16 (omega arith)))
+
 module _ (f : List ℕ) (at n i : ℕ) (lt : i < n) where
   abbrev here : Pair
   here = pair f (at + 3 * i)
@@ -26,10 +35,10 @@ module _ (f : List ℕ) (at n i : ℕ) (lt : i < n) where
   in_pairs = let l = length_pairs f at n in omega arith
 
   -- one more pair is held
-  pub pair_held : (held : List Pair) (p : Pair) → i < length held → take i held ≡ take i (pairs f at n) → p ≡ here → take (i + 1) (set held i p) ≡ take (i + 1) (pairs f at n)
-  pair_held held p l q is =
+  pub pair_held : (held next : List Pair) (p : Pair) → held ≡ take i (pairs f at n) → p ≡ here → next ≡ held ++ p ∷ [] → next ≡ take (i + 1) (pairs f at n)
+  pair_held held next p q is pushed =
       let taken : take (i + 1) (pairs f at n) ≡ take i (pairs f at n) ++ here ∷ [] = take_more (pairs f at n) i here in_pairs ∙ ap (λ e. take i (pairs f at n) ++ e ∷ []) (get_or_pairs f at n i here lt) in
-      take_more_set held i p l ∙ (ap (λ b. b ++ p ∷ []) q ∙ (ap (λ x. take i (pairs f at n) ++ x ∷ []) is ∙ sym taken))
+      pushed ∙ (ap (λ b. b ++ p ∷ []) q ∙ (ap (λ x. take i (pairs f at n) ++ x ∷ []) is ∙ sym taken))
 
   pair_next : (low x : ℕ) (p : Pair) → p ≡ here → first_wrong (drop i (pairs f at n)) low x ≡ first_wrong (p ∷ drop (i + 1) (pairs f at n)) low x
   pair_next low x p is =

@@ -1,6 +1,6 @@
 -- The contents of a plan file: its entries, and the first fault in them.
-use Rattle.std.specs.Prelude.{ℕ, ◌+◌, ◌*◌, Bool, false, cond, not, ◌&&◌, ◌||◌, List, [], ◌∷◌, ◌++◌, map, length, Some, None, Option, ◌==◌, nat_le}
-use Rattle.std.specs.List.{range_with_len}
+use Rattle.std.specs.Prelude.{ℕ, ◌+◌, ◌*◌, Bool, cond, not, ◌&&◌, List, [], ◌∷◌, ◌++◌, map, length, Some, None, Option, ◌==◌, nat_le}
+use Rattle.std.specs.List.{list_any, range_with_len}
 use Rattle.planfile.specs.declared.contents.Entry.{Entry}
 use Rattle.planfile.specs.Faults.{Told, file_fault}
 use Rattle.planfile.specs.Fields.{byte, word}
@@ -23,8 +23,7 @@ contents f = map (λ k. entry f (1 + 5 * k)) (range_with_len 0 (byte f 0))
 
 -- one of the entries has the place
 abbrev pub used : List Entry → ℕ → Bool
-used [] place = false
-used (e ∷ es) place = e.place == place || used es place
+used es place = list_any (λ e. e.place == place) es
 
 -- the first byte after a body
 abbrev pub body_end : Entry → ℕ

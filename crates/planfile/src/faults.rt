@@ -6,7 +6,7 @@ ghost use Rattle.planfile.specs.Faults.{told};
 use book::Refusal;
 
 /// What is wrong with the file itself; each fault has the number by which it is told.
-#[derive(Clone, Copy)]
+#[derive(Clone, Copy, Debug, PartialEq, Eq)]
 pub enum FileFault {
     /// There are more than 16 tasks, or the file is too short for its contents.
     Contents = 20,
@@ -19,14 +19,14 @@ pub enum FileFault {
 }
 
 /// Who refuses: the file's layer, or the book's.
-#[derive(Clone, Copy)]
+#[derive(Clone, Copy, Debug, PartialEq, Eq)]
 pub enum Cause {
     File(FileFault),
     Book(Refusal),
 }
 
 /// Why a plan file is not loaded, and at which byte.
-#[derive(Clone, Copy)]
+#[derive(Clone, Copy, Debug, PartialEq, Eq)]
 pub struct Fault {
     cause: Cause,
     offset: usize,

@@ -1,80 +1,58 @@
 //! Loading a plan file: a whole new draft, or none.
-ghost use Rattle.std.specs.Prelude.{◌≡◌, ◌<◌, ◌≤◌, true, length, take, None, Ok, Err, MatchResult, slice_index_or};
+ghost use Rattle.std.specs.Prelude.{◌≡◌, ◌<◌, length, take, None, Ok, Err, MatchResult, slice_index_or};
 ghost use Rattle.book.specs.Refusals.{number};
 ghost use Rattle.book.specs.Drafts.{draft_book};
 ghost use Rattle.planfile.specs.Faults.{told, outcome, fault_in};
 ghost use Rattle.planfile.specs.Contents.{blank};
-ghost use Rattle.planfile.specs.Bodies.{within, wrong_in, refusal_offset, body_entered, bodies_entered};
+ghost use Rattle.planfile.specs.Bodies.{wrong_in, refusal_offset, bodies_entered};
 ghost use Rattle.planfile.specs.Loads.{loaded, fault_of, book_or};
 
-use crate::bodies::{Body, first_wrong_pair};
-use crate::contents::{Contents, Entry};
+use crate::bodies::{Bodies, Body};
+use crate::contents::Contents;
 use crate::faults::{Fault, FileFault};
-use crate::fields::byte;
+use crate::fields::Fields;
 use book::{Draft, Refusal};
 
-/// Where a refusal of body `i` is told, when no body before it has a wrong pair: at the body; for a table at the first wrong pair, or
-/// at the number of pairs where that is not 1 to 16 or no pair is wrong.
-fn refused_at(
-    file: &[u8],
-    entries: &[Entry],
-    i: usize,
-    refusal: Refusal,
-    missing: Fault,
-) -> Result<usize, Fault>
-    requires listed { i < length entries.now }
-    requires fits { within file.now entries.now ≡ true }
-    requires right { wrong_in file.now (take i entries.now) ≡ None }
-    ensures { MatchResult result (λ at. at ≡ refusal_offset file.now (slice_index_or entries.now i blank) (number refusal)) (λ _. ⊥) }
-{
-    let start = entries[i].start as usize;
-    let Refusal::Table = refusal else {
-        return Ok(start);
-    };
-    let named = byte(file, start + 5, missing)?;
-    if named == 0 || named > 16 {
-        return Ok(start + 5);
-    }
-    let wrong = first_wrong_pair(file, &entries[0..i + 1], missing)?;
-    Ok(wrong.unwrap_or(start + 5))
-}
-
-/// Enters body `i`, when no body before it has a wrong pair.
-fn enter_body(draft: &mut Draft, file: &[u8], entries: &[Entry], i: usize) -> Result<(), Fault>
-    requires listed { i < length entries.now }
-    requires few { length entries.now ≤ 16 }
-    requires fits { within file.now entries.now ≡ true }
-    requires right { wrong_in file.now (take i entries.now) ≡ None }
-    ensures { outcome result (draft_book draft.new) ≡ body_entered file.now (draft_book draft.old) (slice_index_or entries.now i blank) }
-{
-    let entry = entries[i];
-    let missing = Fault::file(FileFault::Entry, 1 + 5 * i);
-    let body = Body::read(file, entry.start as usize, missing)?;
-    match draft.enter(
-        entry.place,
-        body.period,
-        body.phase,
-        body.deadline,
-        body.table(),
-    ) {
-        Ok(()) => Ok(()),
-        Err(refusal) => {
-            let offset = refused_at(file, entries, i, refusal, missing)?;
-            Err(Fault::from(refusal).at(offset))
+impl Bodies<'_> {
+    /// Where a refusal of body `i` is told, when no body before it has a wrong pair: at the body; for a table at the first wrong pair, or
+    /// at the number of pairs where that is not 1 to 16 or no pair is wrong.
+    fn refused_at(&self, i: usize, refusal: Refusal) -> Result<usize, Fault>
+        requires listed { i < length self.now.entries.now }
+        requires right { wrong_in self.now.fields.file.now (take i self.now.entries.now) ≡ None }
+        ensures { MatchResult result (λ at. at ≡ refusal_offset self.now.fields.file.now (slice_index_or self.now.entries.now i blank) (number refusal)) (λ _. ⊥) }
+    {
+        let start = self.entries[i].start as usize;
+        let Refusal::Table = refusal else {
+            return Ok(start);
+        };
+        let named = self.fields.byte(start + 5)?;
+        if named == 0 || named > 16 {
+            return Ok(start + 5);
         }
+        let wrong = self.first_wrong_pair(i + 1)?;
+        Ok(wrong.unwrap_or(start + 5))
     }
-}
 
-/// Enters each body in its order.
-fn enter_bodies(draft: &mut Draft, file: &[u8], entries: &[Entry]) -> Result<(), Fault>
-    requires few { length entries.now ≤ 16 }
-    requires fits { within file.now entries.now ≡ true }
-    ensures { outcome result (draft_book draft.new) ≡ bodies_entered file.now (draft_book draft.old) entries.now }
-{
-    for i in 0..entries.len() {
-        enter_body(draft, file, entries, i)?;
+    /// Enters each body in its order.
+    fn enter(&self, draft: &mut Draft) -> Result<(), Fault>
+        ensures { outcome result (draft_book draft.new) ≡ bodies_entered self.now.fields.file.now (draft_book draft.old) self.now.entries.now }
+    {
+        for (i, entry) in self.entries.iter().enumerate() {
+            let body = Body::read(&self.fields, entry.start as usize)?;
+            let table = body.table.as_slice();
+            if let Err(refusal) = draft.enter(
+                entry.place,
+                body.period,
+                body.phase,
+                body.deadline,
+                table,
+            ) {
+                let offset = self.refused_at(i, refusal)?;
+                return Err(Fault::from(refusal).at(offset));
+            }
+        }
+        Ok(())
     }
-    Ok(())
 }
 
 /// The draft of the file's tasks.
@@ -82,8 +60,14 @@ pub(crate) fn draft_of(file: &[u8]) -> Result<Draft, Fault>
     ensures { MatchResult result (λ d. loaded file.now ≡ Ok (draft_book d)) (λ e. loaded file.now ≡ Err (told e)) }
 {
     let contents = Contents::read(file)?;
+    // Each body lies in the file, so that this fault never comes.
+    let missing = Fault::file(FileFault::Entry, 0);
+    let bodies = Bodies {
+        fields: Fields { file, missing },
+        entries: contents.entries.as_slice(),
+    };
     let mut draft = Draft::new();
-    enter_bodies(&mut draft, file, contents.entries())?;
+    bodies.enter(&mut draft)?;
     if contents.end < file.len() {
         return Err(Fault::file(FileFault::Trailing, contents.end));
     }

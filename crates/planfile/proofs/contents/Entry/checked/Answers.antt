@@ -13,7 +13,7 @@ returns-then-not-is_placed c =
     let P : Entry → Type 0 = λ e. placed f c.args.start before e ≡ false in
     let p : placed f c.args.start before (entry f c.args.at) ≡ false = subst P c.in_ok-entry.ensures.1 (sym c.if-not-is_placed.ensures) in
     let n = number_unplaced f c.args.start before (entry f c.args.at) p in
-    (ap told c.file-wrong.ensures ∙ ap (λ k. file_fault k c.args.at) (sym n), omega arith)
+    (ap told c.file-missing.ensures ∙ ap (λ k. file_fault k c.args.at) (sym n), omega arith)
 
 pub returns-then-entry-lt6 : goal.returns-then-entry-lt6
 returns-then-entry-lt6 c =
@@ -25,7 +25,7 @@ returns-then-entry-lt6 c =
     let p : placed f c.args.start before e ≡ true = sym c.if-not-is_placed.ensures in
     let q : sized f e ≡ false = grind (arith, nat_tests) in
     let n = subst P is (number_unsized f c.args.start before e p q) in
-    (ap told c.file-short.ensures ∙ ap (λ k. file_fault k c.args.at) (sym n), omega arith)
+    (ap told c.file-missing-2.ensures ∙ ap (λ k. file_fault k c.args.at) (sym n), omega arith)
 
 pub returns-then-entry-pairs : goal.returns-then-entry-pairs
 returns-then-entry-pairs c =
@@ -38,7 +38,7 @@ returns-then-entry-pairs c =
     let k = c.in_ok-pairs.ensures.1 in
     let q : sized f e ≡ false = grind (arith, nat_tests) in
     let n = subst P is (number_unsized f c.args.start before e p q) in
-    (ap told c.file-short.ensures ∙ ap (λ k. file_fault k c.args.at) (sym n), omega arith)
+    (ap told c.file-missing-2.ensures ∙ ap (λ k. file_fault k c.args.at) (sym n), omega arith)
 
 pub returns : goal.returns
 returns c =
