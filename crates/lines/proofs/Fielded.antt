@@ -1,8 +1,36 @@
 -- The first field of a line.
-use Rattle.std.proofs.Common.{◌≡◌, ℕ, suc, ◌-◌, ◌<◌, ◌≤◌, true, false, cond, List, [], ◌∷◌, length, take, drop, sym, refl, ap, ◌∙◌, subst, ⊎_elim, arith}
+use Rattle.std.proofs.Common.{◌≡◌, ℕ, suc, ◌+◌, ◌-◌, ◌<◌, ◌≤◌, Bool, true, false, cond, not, ltb, List, [], ◌∷◌, length, take, drop, Some, None, Option, sym, refl, ap, ◌∙◌, subst, ⊎_elim, arith}
 use Rattle.std.proofs.lemmas.List.{length-drop}
-use Rattle.std.proofs.lemmas.Bool.{cond-true, cond-false, cases_Bool}
-use Rattle.lines.specs.Fields.{blank, joined, pieces, filled, fields, blanks_ahead, first_blank}
+use Rattle.std.proofs.lemmas.List.Recursion.{is_position_or_len}
+use Rattle.std.proofs.lemmas.Bool.{cond-true, cond-false, cases_Bool, cases_lt, lt-ltb, le-ltb}
+use Rattle.std.specs.List.{position, position_or_len}
+use Rattle.std.specs.Option.{unwrap_or}
+use Rattle.lines.specs.Fields.{blank, joined, pieces, filled, fields}
+use Rattle.lines.proofs.Marked.{no_place, place}
+
+-- how many bytes at the front are blanks
+abbrev pub blanks_ahead : List ℕ → ℕ
+blanks_ahead [] = 0
+blanks_ahead (b ∷ bs) = cond (blank b) (suc (blanks_ahead bs)) 0
+
+-- how many bytes stand before the first blank
+abbrev pub first_blank : List ℕ → ℕ
+first_blank [] = 0
+first_blank (b ∷ bs) = cond (blank b) 0 (suc (first_blank bs))
+
+one_more : (n : ℕ) → suc n ≡ 1 + n
+one_more n = omega arith
+
+turned : (v : Bool) (n : ℕ) → cond v (suc n) 0 ≡ cond (not v) 0 (1 + n)
+turned true n = one_more n
+turned false n = refl
+
+-- both counts, as the library counts them
+blanks_place : (bs : List ℕ) → blanks_ahead bs ≡ position_or_len (λ b. not (blank b)) bs
+blanks_place = is_position_or_len blanks_ahead (λ b. not (blank b)) refl (λ b bs. turned (blank b) (blanks_ahead bs))
+
+first_place : (bs : List ℕ) → first_blank bs ≡ position_or_len blank bs
+first_place = is_position_or_len first_blank blank refl (λ b bs. ap (λ n. cond (blank b) 0 n) (one_more (first_blank bs)))
 
 -- neither count passes the end
 pub blanks_within : (bs : List ℕ) → blanks_ahead bs ≤ length bs
@@ -82,19 +110,36 @@ unfolding fields pieces filled
 no_field [] h = refl
 no_field (b ∷ bs) h = absurd (omega arith)
 
+-- where no byte is anything but a blank
+pub none_left : (bs : List ℕ) → None ≡ position (λ b. not (blank b)) bs → fields bs ≡ []
+none_left bs e =
+    let past : length bs ≤ blanks_ahead bs = omega (arith, blanks_place bs, no_place (λ b. not (blank b)) bs e) in
+    let all : length (drop (blanks_ahead bs) bs) ≡ length bs - blanks_ahead bs = length-drop (blanks_ahead bs) bs in
+    after_blanks bs ∙ no_field (drop (blanks_ahead bs) bs) (omega arith)
+
+-- the place of the first blank, or the end
+pub its_width : (line : List ℕ) (o : Option ℕ) → o ≡ position blank line → unwrap_or o (length line) ≡ first_blank line
+its_width line o e =
+    let n = position_or_len blank line in
+    let within = first_within line in
+    let is = first_place line in
+    ap (λ p. unwrap_or p (length line)) e
+    ∙ ⊎_elim
+    (λ few. ap (λ p. unwrap_or p (length line)) (cond-true (ltb n (length line)) (Some n) None (lt-ltb n (length line) few)) ∙ sym is)
+    (λ many. ap (λ p. unwrap_or p (length line)) (cond-false (ltb n (length line)) (Some n) None (le-ltb n (length line) many)) ∙ omega arith)
+    (cases_lt n (length line))
+
 -- a line is its first field, after the blanks ahead, and the fields of what follows it
-pub next_field : (bs line field rest : List ℕ) (ahead width : ℕ) → ahead ≡ blanks_ahead bs → line ≡ drop ahead bs → 1 ≤ length line → width ≡ first_blank line → field ≡ take width line → rest ≡ drop width line → (fields bs ≡ field ∷ fields rest) × (length rest < length bs)
-next_field bs line field rest ahead width a l some w f r =
+pub next_field : (bs line field rest : List ℕ) (ahead width : ℕ) → Some ahead ≡ position (λ b. not (blank b)) bs → line ≡ drop ahead bs → width ≡ first_blank line → field ≡ take width line → rest ≡ drop width line → (fields bs ≡ field ∷ fields rest) × (length rest < length bs)
+next_field bs line field rest ahead width at l w f r =
+    let found = place (λ b. not (blank b)) bs ahead at in
+    let a : ahead ≡ blanks_ahead bs = found.0 ∙ sym (blanks_place bs) in
+    let less : length line ≡ length bs - ahead = ap length l ∙ length-drop ahead bs in
+    let some : 1 ≤ length line = omega (arith, found.1) in
     let same : line ≡ drop (blanks_ahead bs) bs = subst (λ n. line ≡ drop n bs) a l in
     let starts : 1 ≤ first_blank line = subst (λ s. 1 ≤ first_blank s) (sym same) (starts_field bs (subst (λ s. 1 ≤ length s) same some)) in
     let first : fields line ≡ take width line ∷ fields (drop width line) = subst (λ n. fields line ≡ take n line ∷ fields (drop n line)) (sym w) (first_field line starts) in
-    let short : length rest ≡ length line - width = ap length r ∙ length-drop width line in
-    let less : length line ≡ length bs - ahead = ap length l ∙ length-drop ahead bs in (
+    let short : length rest ≡ length line - width = ap length r ∙ length-drop width line in (
       after_blanks bs ∙ (ap fields (sym same) ∙ (first ∙ (ap (λ s. s ∷ fields (drop width line)) (sym f) ∙ ap (λ s. field ∷ fields s) (sym r)))),
       omega arith,
     )
-
--- nothing after the blanks ahead
-pub none_left : (bs line : List ℕ) (ahead : ℕ) → ahead ≡ blanks_ahead bs → line ≡ drop ahead bs → length line ≡ 0 → fields bs ≡ []
-none_left bs line ahead a l e =
-    after_blanks bs ∙ (ap (λ n. fields (drop n bs)) (sym a) ∙ (ap fields (sym l) ∙ no_field line e))

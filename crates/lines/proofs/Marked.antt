@@ -1,54 +1,59 @@
 -- The first place of a mark.
-use Rattle.std.proofs.Common.{◌≡◌, ℕ, ◌+◌, ◌-◌, ◌<◌, ◌≤◌, cond, eqb, List, [], ◌∷◌, ◌++◌, length, get_or, take, drop, Some, None, Option, sym, refl, ap, ◌∙◌, arith}
+use Rattle.std.proofs.Common.{◌≡◌, ℕ, suc, ◌+◌, ◌-◌, ◌<◌, ◌≤◌, Bool, true, false, cond, not, ltb, eqb, List, [], ◌∷◌, length, take, drop, Some, None, sym, refl, ap, ◌∙◌, subst, ⊎_elim, arith}
 use Rattle.std.specs.Option.{option_map}
-use Rattle.std.proofs.lemmas.List.{at_drop_more, at_drop_all, append-nil, append_assoc, take_more, take_all, length-drop}
-use Rattle.std.proofs.lemmas.Bool.{cond-true, cond-false, eq-eqb, ne_eqb}
+use Rattle.std.specs.List.{position, position_or_len}
+use Rattle.std.proofs.lemmas.List.{take_all, length-drop}
+use Rattle.std.proofs.lemmas.Bool.{cond-true, cond-false, cases_lt, lt-ltb, le-ltb}
 use Rattle.lines.specs.Readings.{cut}
 
--- bytes put before the first part
-abbrev pub before : List ℕ → List ℕ × List ℕ → List ℕ × List ℕ
-before bs c = (bs ++ c.0, c.1)
+module _ {X : Type 0} (p : X → Bool) (xs : List X) where
+  -- no element passes
+  pub no_place : None ≡ position p xs → length xs ≤ position_or_len p xs
+  no_place e =
+      ⊎_elim
+      (λ few. let s = cond-true (ltb (position_or_len p xs) (length xs)) (Some (position_or_len p xs)) None (lt-ltb (position_or_len p xs) (length xs) few) in cc)
+      (λ many. many)
+      (cases_lt (position_or_len p xs) (length xs))
 
--- what is left of the bytes is cut as the whole is
-abbrev pub CutOn : ℕ → List ℕ → ℕ → Type 0
-CutOn mark bs i = cut mark bs ≡ option_map (before (take i bs)) (cut mark (drop i bs))
+  -- the first that passes
+  pub place : (i : ℕ) → Some i ≡ position p xs → (i ≡ position_or_len p xs) × (i < length xs)
+  place i e =
+      ⊎_elim
+      (λ few.
+      let s = cond-true (ltb (position_or_len p xs) (length xs)) (Some (position_or_len p xs)) None (lt-ltb (position_or_len p xs) (length xs) few) in
+      let same : i ≡ position_or_len p xs = cc in (same, omega arith))
+      (λ many. let s = cond-false (ltb (position_or_len p xs) (length xs)) (Some (position_or_len p xs)) None (le-ltb (position_or_len p xs) (length xs) many) in cc)
+      (cases_lt (position_or_len p xs) (length xs))
 
-none_before : (o : Option (List ℕ × List ℕ)) → o ≡ option_map (before []) o
-none_before None = refl
-none_before (Some c) = refl
+abbrev after_byte : ℕ → List ℕ × List ℕ → List ℕ × List ℕ
+after_byte b c = (b ∷ c.0, c.1)
 
-pub cut_start : (mark : ℕ) (bs : List ℕ) → CutOn mark bs 0
-cut_start mark bs = none_before (cut mark bs)
+-- the bytes are cut at n, or nowhere where n is past the end
+abbrev CutAt : ℕ → List ℕ → ℕ → Type 0
+CutAt mark bs n = (n < length bs → cut mark bs ≡ Some (take n bs, drop (suc n) bs)) × (length bs ≤ n → cut mark bs ≡ None)
 
-cut_step : (mark : ℕ) (bs : List ℕ) (i : ℕ) → i < length bs → cut mark (drop i bs) ≡ cond (eqb (get_or bs i 0) mark) (Some ([], drop (i + 1) bs)) (option_map (before (get_or bs i 0 ∷ [])) (cut mark (drop (i + 1) bs)))
+one_byte_more : (mark b : ℕ) (bs : List ℕ) (n : ℕ) → CutAt mark bs n → (v : Bool) → eqb b mark ≡ v → CutAt mark (b ∷ bs) (cond (not v) (1 + n) 0)
 unfolding cut
-cut_step mark bs i lt = at_drop_more (cut mark) bs i 0 lt
+one_byte_more mark b bs n h true e = (λ lt. cond-true (eqb b mark) _ _ e, λ le. absurd (omega arith))
+one_byte_more mark b bs n h false e =
+    let step = cond-false (eqb b mark) (Some ([], bs)) (option_map (after_byte b) (cut mark bs)) e in
+    let one : suc n ≡ 1 + n = omega arith in
+    subst (CutAt mark (b ∷ bs)) one (λ lt. step ∙ ap (option_map (after_byte b)) (h.0 (omega arith)), λ le. step ∙ ap (option_map (after_byte b)) (h.1 (omega arith)))
 
-pub cut_here : (mark : ℕ) (bs : List ℕ) (i : ℕ) → i < length bs → CutOn mark bs i → get_or bs i 0 ≡ mark → cut mark bs ≡ Some (take i bs, drop (i + 1) bs)
-cut_here mark bs i lt inv e =
-    inv
-    ∙ (ap (option_map (before (take i bs))) (cut_step mark bs i lt ∙ cond-true _ _ _ (eq-eqb _ mark e))
-    ∙ ap (λ l. Some (l, drop (i + 1) bs)) (append-nil (take i bs)))
-
-twice : (xs ys zs : List ℕ) (o : Option (List ℕ × List ℕ)) → zs ≡ xs ++ ys → option_map (before xs) (option_map (before ys) o) ≡ option_map (before zs) o
-twice xs ys zs None e = refl
-twice xs ys zs (Some c) e = ap (λ l. Some (l, c.1)) (sym (ap (λ l. l ++ c.0) e ∙ append_assoc xs ys c.0))
-
-pub cut_further : (mark : ℕ) (bs : List ℕ) (i : ℕ) → i < length bs → CutOn mark bs i → (get_or bs i 0 ≡ mark → ⊥) → CutOn mark bs (i + 1)
-cut_further mark bs i lt inv ne =
-    inv
-    ∙ (ap (option_map (before (take i bs))) (cut_step mark bs i lt ∙ cond-false _ _ _ (ne_eqb _ mark ne))
-    ∙ twice (take i bs) (get_or bs i 0 ∷ []) (take (i + 1) bs) (cut mark (drop (i + 1) bs)) (take_more bs i 0 lt))
-
-pub cut_nowhere : (mark : ℕ) (bs : List ℕ) (i : ℕ) → length bs ≤ i → CutOn mark bs i → cut mark bs ≡ None
+cut_first : (mark : ℕ) (bs : List ℕ) → CutAt mark bs (position_or_len (λ b. eqb b mark) bs)
 unfolding cut
-cut_nowhere mark bs i le inv = inv ∙ ap (option_map (before (take i bs))) (at_drop_all (cut mark) bs i le)
+cut_first mark [] = (λ lt. absurd (omega arith), λ le. refl)
+cut_first mark (b ∷ bs) = one_byte_more mark b bs (position_or_len (λ b. eqb b mark) bs) (cut_first mark bs) (eqb b mark) refl
+
+-- the mark is nowhere
+pub cut_nowhere : (mark : ℕ) (bs : List ℕ) → None ≡ position (λ b. eqb b mark) bs → cut mark bs ≡ None
+cut_nowhere mark bs e = (cut_first mark bs).1 (no_place (λ b. eqb b mark) bs e)
 
 -- the two parts, as slices of the bytes
-pub cut_parts : (mark : ℕ) (bs : List ℕ) (i : ℕ) → i < length bs → CutOn mark bs i → get_or bs i 0 ≡ mark → cut mark bs ≡ Some (take (i - 0) bs, take (length bs - (i + 1)) (drop (i + 1) bs))
-cut_parts mark bs i lt inv e =
-    let front : i ≡ i - 0 = omega arith in
+pub cut_parts : (mark : ℕ) (bs : List ℕ) (i : ℕ) → Some i ≡ position (λ b. eqb b mark) bs → cut mark bs ≡ Some (take i bs, take (length bs - (i + 1)) (drop (i + 1) bs))
+cut_parts mark bs i e =
+    let found = place (λ b. eqb b mark) bs i e in
+    let one : suc i ≡ i + 1 = omega arith in
     let long = length-drop (i + 1) bs in
-    cut_here mark bs i lt inv e
-    ∙ (ap (λ n. Some (take n bs, drop (i + 1) bs)) front
-    ∙ ap (λ l. Some (take (i - 0) bs, l)) (sym (take_all (length bs - (i + 1)) (drop (i + 1) bs) (omega arith))))
+    let here : cut mark bs ≡ Some (take i bs, drop (suc i) bs) = subst (λ n. cut mark bs ≡ Some (take n bs, drop (suc n) bs)) (sym found.0) ((cut_first mark bs).0 (omega (arith, found.0, found.1))) in
+    here ∙ ap (λ l. Some (take i bs, l)) (ap (λ n. drop n bs) one ∙ sym (take_all (length bs - (i + 1)) (drop (i + 1) bs) (omega arith)))

@@ -1,8 +1,10 @@
 -- What decides whether a field is a number.
-use Rattle.std.proofs.Common.{◌≡◌, ℕ, ◌+◌, ◌-◌, ◌*◌, ◌<◌, ◌≤◌, true, false, ◌&&◌, leb, List, [], ◌∷◌, length, get_or, drop, Some, None, sym, ap, ◌∙◌, arith}
+use Rattle.std.proofs.Common.{◌≡◌, ℕ, suc, ◌+◌, ◌-◌, ◌*◌, ◌<◌, ◌≤◌, Bool, true, false, cond, ◌&&◌, leb, List, [], ◌∷◌, length, get_or, drop, Some, None, Ok, Err, Result, OkIff, sym, refl, ap, ◌∙◌, ⊎_elim, arith}
 use Rattle.std.proofs.lemmas.List.{at_drop_more, at_drop_all}
-use Rattle.std.proofs.lemmas.Bool.{le-leb, lt-leb, and_from, and_left, and_right, cond-true, cond-false}
-use Rattle.lines.specs.Numbers.{digit, all_digits, value_after, number}
+use Rattle.std.proofs.lemmas.Bool.{cases_lt, le-leb, lt-leb, and_from, and_left, and_right, cond-true, cond-false}
+use Rattle.lines.specs.Numbers.{digit, all_digits, value_after, number, whole}
+use Rattle.std.specs.Result.{result_ok}
+use Rattle.lines.specs.Readings.{then}
 
 -- more digits never make a value smaller
 pub value_grows : (n : ℕ) (bs : List ℕ) → n ≤ value_after n bs
@@ -54,3 +56,31 @@ one_further v d next field i lt same value is d-is next-is =
 -- past the last byte
 pub all_read : (v : ℕ) (field : List ℕ) (i : ℕ) → length field ≤ i → all_digits (drop i field) ≡ all_digits field → value_after v (drop i field) ≡ value_after 0 field → (all_digits field ≡ true) × (value_after 0 field ≡ v)
 all_read v field i le same value = (sym same ∙ at_drop_all all_digits field i le, sym value ∙ at_drop_all (value_after v) field i le)
+
+limited : (most v : ℕ) (a b : Bool) → most ≤ 18446744073709551615 → cond (a && (b && leb v most)) (Some v) None ≡ then (cond (a && (b && leb v 18446744073709551615)) (Some v) None) (λ n. cond (leb n most) (Some n) None)
+limited most v false b h = refl
+limited most v true false h = refl
+limited most v true true h =
+    ⊎_elim
+    (λ over. rw (lt-leb v most (omega arith), lt-leb v 18446744073709551615 over) refl)
+    (λ fits. rw (le-leb v 18446744073709551615 fits) refl)
+    (cases_lt 18446744073709551615 v)
+
+-- a smaller limit, after the largest
+pub within_limit : (most : ℕ) (field : List ℕ) → most ≤ 18446744073709551615 → number most field ≡ then (whole field) (λ n. cond (leb n most) (Some n) None)
+unfolding number
+within_limit most field h = limited most (value_after 0 field) (leb 1 (length field)) (all_digits field) h
+
+-- no number of 64 bits is no smaller one
+pub no_smaller : (most : ℕ) (field : List ℕ) → most ≤ 18446744073709551615 → None ≡ whole field → None ≡ number most field
+no_smaller most field h e = sym (within_limit most field h ∙ ap (λ o. then o (λ n. cond (leb n most) (Some n) None)) (sym e))
+
+-- a number of 64 bits, as a conversion to a smaller type leaves it
+pub smaller : {E : Type 0} (most : ℕ) (field : List ℕ) (n : ℕ) (r : Result ℕ E) → most ≤ 18446744073709551615 → Some n ≡ whole field → OkIff r (n < suc most) n → result_ok r ≡ number most field
+smaller most field n (Ok x) h e is =
+    let all : number most field ≡ cond (leb n most) (Some n) None = within_limit most field h ∙ ap (λ o. then o (λ m. cond (leb m most) (Some m) None)) (sym e) in
+    ap Some is.1 ∙ sym (all ∙ cond-true (leb n most) (Some n) None (le-leb n most (omega (arith, is.0))))
+smaller most field n (Err x) h e is =
+    let all : number most field ≡ cond (leb n most) (Some n) None = within_limit most field h ∙ ap (λ o. then o (λ m. cond (leb m most) (Some m) None)) (sym e) in
+    let over : most < n = ⊎_elim (λ m. m) (λ fits. absurd (is (omega arith))) (cases_lt most n) in
+    sym (all ∙ cond-false (leb n most) (Some n) None (lt-leb n most over))

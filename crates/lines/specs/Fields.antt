@@ -1,5 +1,5 @@
 -- The fields of a line: the runs of bytes between its blanks.
-use Rattle.std.specs.Prelude.{ℕ, suc, Bool, cond, ◌||◌, List, [], ◌∷◌, ◌==◌}
+use Rattle.std.specs.Prelude.{ℕ, Bool, cond, ◌||◌, List, [], ◌∷◌, ◌==◌}
 use Rattle.lines.specs.declared.fields.Fields.{Fields}
 
 -- a space, a tab or a carriage return
@@ -29,13 +29,3 @@ fields line = filled (pieces line)
 -- the fields that are still to be read
 abbrev pub left : Fields → List (List ℕ)
 left f = fields f.rest.now
-
--- how many bytes at the front are blanks
-abbrev pub blanks_ahead : List ℕ → ℕ
-blanks_ahead [] = 0
-blanks_ahead (b ∷ bs) = cond (blank b) (suc (blanks_ahead bs)) 0
-
--- how many bytes stand before the first blank
-abbrev pub first_blank : List ℕ → ℕ
-first_blank [] = 0
-first_blank (b ∷ bs) = cond (blank b) 0 (suc (first_blank bs))

@@ -6,7 +6,6 @@ ghost use Rattle.lines.specs.Calls.{complete, enter as enter_of, withdraw as wit
 use crate::fields::Fields;
 use crate::rules::{Kind, Rule};
 use crate::tables::{PairList, pairs};
-use crate::words::is;
 
 /// A call of the console.
 #[derive(Clone, Copy)]
@@ -72,10 +71,10 @@ fn complete(mut fields: Fields, call: Call) -> Option<Call>
 fn enter(mut fields: Fields) -> Option<Call>
     ensures { result ≡ enter_of (left fields.entry) }
 {
-    let place = fields.byte()?;
-    let period = fields.word()?;
-    let phase = fields.word()?;
-    let deadline = fields.byte()?;
+    let place = fields.take()?;
+    let period = fields.take()?;
+    let phase = fields.take()?;
+    let deadline = fields.take()?;
     let table = pairs(fields)?;
     Some(Call::Enter {
         place,
@@ -90,7 +89,7 @@ fn enter(mut fields: Fields) -> Option<Call>
 fn withdraw(mut fields: Fields) -> Option<Call>
     ensures { result ≡ withdraw_of (left fields.entry) }
 {
-    let place = fields.byte()?;
+    let place = fields.take()?;
     complete(fields, Call::Withdraw { place })
 }
 
@@ -106,7 +105,7 @@ fn opening(fields: Fields) -> Option<Call>
 fn rounds(mut fields: Fields) -> Option<Call>
     ensures { result ≡ rounds_of (left fields.entry) }
 {
-    let rounds = fields.byte()?;
+    let rounds = fields.take()?;
     complete(fields, Call::Rounds { rounds })
 }
 
@@ -114,10 +113,10 @@ fn rounds(mut fields: Fields) -> Option<Call>
 fn response(mut fields: Fields) -> Option<Call>
     ensures { result ≡ response_of (left fields.entry) }
 {
-    let kind = fields.kind()?;
-    let rule = fields.rule()?;
-    let place = fields.byte()?;
-    let index = fields.long()?;
+    let kind = fields.take()?;
+    let rule = fields.take()?;
+    let place = fields.take()?;
+    let index = fields.take()?;
     complete(
         fields,
         Call::Response {
@@ -133,9 +132,9 @@ fn response(mut fields: Fields) -> Option<Call>
 fn rounded(mut fields: Fields) -> Option<Call>
     ensures { result ≡ rounded_of (left fields.entry) }
 {
-    let rule = fields.rule()?;
-    let place = fields.byte()?;
-    let index = fields.long()?;
+    let rule = fields.take()?;
+    let place = fields.take()?;
+    let index = fields.take()?;
     complete(fields, Call::Rounded { rule, place, index })
 }
 
@@ -143,9 +142,9 @@ fn rounded(mut fields: Fields) -> Option<Call>
 fn task(mut fields: Fields) -> Option<Call>
     ensures { result ≡ task_of (left fields.entry) }
 {
-    let rule = fields.rule()?;
-    let place = fields.byte()?;
-    let round = fields.long()?;
+    let rule = fields.take()?;
+    let place = fields.take()?;
+    let round = fields.take()?;
     complete(fields, Call::Task { rule, place, round })
 }
 
@@ -153,27 +152,17 @@ fn task(mut fields: Fields) -> Option<Call>
 pub(crate) fn read_call(word: &[u8], fields: Fields) -> Option<Call>
     ensures { result ≡ call_of word.now (left fields.entry) }
 {
-    if is(word, b"enter") {
-        enter(fields)
-    } else if is(word, b"withdraw") {
-        withdraw(fields)
-    } else if is(word, b"opening") {
-        opening(fields)
-    } else if is(word, b"rounds") {
-        rounds(fields)
-    } else if is(word, b"issue") {
-        complete(fields, Call::Issue)
-    } else if is(word, b"reopen") {
-        complete(fields, Call::Reopen)
-    } else if is(word, b"response") {
-        response(fields)
-    } else if is(word, b"rounded") {
-        rounded(fields)
-    } else if is(word, b"task") {
-        task(fields)
-    } else if is(word, b"show") {
-        complete(fields, Call::Show)
-    } else {
-        None
+    match word {
+        b"enter" => enter(fields),
+        b"withdraw" => withdraw(fields),
+        b"opening" => opening(fields),
+        b"rounds" => rounds(fields),
+        b"issue" => complete(fields, Call::Issue),
+        b"reopen" => complete(fields, Call::Reopen),
+        b"response" => response(fields),
+        b"rounded" => rounded(fields),
+        b"task" => task(fields),
+        b"show" => complete(fields, Call::Show),
+        _ => None,
     }
 }

@@ -1,38 +1,23 @@
 //! The fields of a line.
-ghost use Rattle.std.specs.Prelude.{◌≡◌, ◌<◌, [], ◌∷◌, length, MatchOption};
-ghost use Rattle.lines.specs.Fields.{blank, blanks_ahead, first_blank, left, fields as fields_of};
+ghost use Rattle.std.specs.Prelude.{◌≡◌, ◌<◌, ℕ, List, [], ◌∷◌, Option, length, MatchOption};
+ghost use Rattle.lines.specs.Fields.{blank, left, fields as fields_of};
+ghost use Rattle.lines.specs.Readings.{Takes};
 
-mod taking;
+/// A value that a field may stand for.
+pub(crate) trait FromField: Sized {
+    // The value of a field, where it stands for one.
+    ghost reads: { List ℕ → Option Self };
+
+    /// Reads a field.
+    fn from_field(field: &[u8]) -> Option<Self>
+        ensures { result ≡ reads field.now };
+}
 
 /// Whether a byte is a blank.
 fn is_blank(byte: u8) -> bool
     ensures { result ≡ blank byte }
 {
     matches!(byte, b' ' | b'\t' | b'\r')
-}
-
-/// How many blanks stand at the front.
-fn blanks_ahead(bytes: &[u8]) -> usize
-    ensures { result ≡ blanks_ahead bytes.now }
-{
-    for (i, byte) in bytes.iter().enumerate() {
-        if !is_blank(*byte) {
-            return i;
-        }
-    }
-    bytes.len()
-}
-
-/// How many bytes stand before the first blank.
-fn first_blank(bytes: &[u8]) -> usize
-    ensures { result ≡ first_blank bytes.now }
-{
-    for (i, byte) in bytes.iter().enumerate() {
-        if is_blank(*byte) {
-            return i;
-        }
-    }
-    bytes.len()
 }
 
 /// The fields of a line that are still to be read.
@@ -53,12 +38,18 @@ impl<'a> Fields<'a> {
     pub(crate) fn next(&mut self) -> Option<&'a [u8]>
         ensures { MatchOption result (left self.old ≡ []) (λ f. (left self.old ≡ f.now ∷ left self.new) × (length self.new.rest.now < length self.old.rest.now)) }
     {
-        let (_, line) = self.rest.split_at(blanks_ahead(self.rest));
-        if line.is_empty() {
-            return None;
-        }
-        let (field, rest) = line.split_at(first_blank(line));
+        let blanks = self.rest.iter().position(|b| !is_blank(*b))?;
+        let line = &self.rest[blanks..];
+        let width = line.iter().position(|b| is_blank(*b)).unwrap_or(line.len());
+        let (field, rest) = line.split_at(width);
         self.rest = rest;
         Some(field)
+    }
+
+    /// Takes the next field, and reads it.
+    pub(crate) fn take<T: FromField>(&mut self) -> Option<T>
+        ensures { Takes T.reads (left self.old) result (left self.new) }
+    {
+        T::from_field(self.next()?)
     }
 }

@@ -1,27 +1,54 @@
 //! The numbers of a line.
-ghost use Rattle.std.specs.Prelude.{◌≡◌, ◌-◌, ◌≤◌, true, false, Some, None, MatchOption};
-ghost use Rattle.lines.specs.Numbers.{digit as is_digit, number as number_of_lem};
+ghost use Rattle.std.specs.Prelude.{◌≡◌, ◌-◌, true, false, MatchOption};
+ghost use Rattle.lines.specs.Numbers.{digit as is_digit, byte, word, long, whole};
+
+use crate::fields::FromField;
 
 /// The value of a digit.
 fn digit(byte: u8) -> Option<u64>
     ensures { MatchOption result (is_digit byte ≡ false) (λ d. (is_digit byte ≡ true) × (d ≡ byte - 48)) }
 {
     match byte {
-        b'0'..=b'9' => Some((byte - b'0') as u64),
+        b'0'..=b'9' => Some(u64::from(byte - b'0')),
         _ => None,
     }
 }
 
-/// The number that a field is, where it is at most the limit.
-pub(crate) fn number(field: &[u8], most: u64) -> Option<u64>
-    ensures { MatchOption result (number_of_lem most field.now ≡ None) (λ n. (number_of_lem most field.now ≡ Some n) × (n ≤ most)) }
-{
-    if field.is_empty() {
-        return None;
+impl FromField for u64 {
+    ghost reads = { whole };
+
+    fn from_field(field: &[u8]) -> Option<u64> {
+        if field.is_empty() {
+            return None;
+        }
+        let mut value: u64 = 0;
+        for byte in field {
+            value = value.checked_mul(10)?.checked_add(digit(*byte)?)?;
+        }
+        Some(value)
     }
-    let mut value: u64 = 0;
-    for byte in field {
-        value = value.checked_mul(10)?.checked_add(digit(*byte)?)?;
+}
+
+impl FromField for u32 {
+    ghost reads = { long };
+
+    fn from_field(field: &[u8]) -> Option<u32> {
+        u32::try_from(u64::from_field(field)?).ok()
     }
-    if value <= most { Some(value) } else { None }
+}
+
+impl FromField for u16 {
+    ghost reads = { word };
+
+    fn from_field(field: &[u8]) -> Option<u16> {
+        u16::try_from(u64::from_field(field)?).ok()
+    }
+}
+
+impl FromField for u8 {
+    ghost reads = { byte };
+
+    fn from_field(field: &[u8]) -> Option<u8> {
+        u8::try_from(u64::from_field(field)?).ok()
+    }
 }

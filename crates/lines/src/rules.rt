@@ -2,8 +2,8 @@
 ghost use Rattle.std.specs.Prelude.{◌≡◌, Some, None, MatchOption};
 ghost use Rattle.lines.specs.Rules.{kind as kind_of, rule as rule_of, table as table_of, ranks as ranks_of};
 
-use crate::numbers::number;
-use crate::words::{cut, is};
+use crate::fields::FromField;
+use crate::words::cut;
 use analysis::TableRule;
 
 /// Which weights a response is asked in.
@@ -28,18 +28,16 @@ pub enum Rule {
     Table(TableRule),
 }
 
-/// Reads the name of a kind.
-pub(crate) fn read_kind(field: &[u8]) -> Option<Kind>
-    ensures { result ≡ kind_of field.now }
-{
-    if is(field, b"counts") {
-        Some(Kind::Counts)
-    } else if is(field, b"possible") {
-        Some(Kind::Possible)
-    } else if is(field, b"heaviest") {
-        Some(Kind::Heaviest)
-    } else {
-        None
+impl FromField for Kind {
+    ghost reads = { kind_of };
+
+    fn from_field(field: &[u8]) -> Option<Kind> {
+        match field {
+            b"counts" => Some(Kind::Counts),
+            b"possible" => Some(Kind::Possible),
+            b"heaviest" => Some(Kind::Heaviest),
+            _ => None,
+        }
     }
 }
 
@@ -51,10 +49,10 @@ fn read_ranks(list: &[u8]) -> Option<TableRule>
     let mut rest = list;
     for i in 0..15 {
         let (rank, after) = cut(rest, b',')?;
-        ranks[i] = number(rank, u64::MAX)?;
+        ranks[i] = u64::from_field(rank)?;
         rest = after;
     }
-    ranks[15] = number(rest, u64::MAX)?;
+    ranks[15] = u64::from_field(rest)?;
     Some(TableRule { ranks })
 }
 
@@ -62,23 +60,20 @@ fn read_ranks(list: &[u8]) -> Option<TableRule>
 fn read_table(field: &[u8]) -> Option<Rule>
     ensures { result ≡ table_of field.now }
 {
-    let (word, list) = cut(field, b':')?;
-    if is(word, b"table") {
-        Some(Rule::Table(read_ranks(list)?))
-    } else {
-        None
+    match cut(field, b':')? {
+        (b"table", list) => Some(Rule::Table(read_ranks(list)?)),
+        _ => None,
     }
 }
 
-/// Reads a rule.
-pub(crate) fn read_rule(field: &[u8]) -> Option<Rule>
-    ensures { result ≡ rule_of field.now }
-{
-    if is(field, b"period") {
-        Some(Rule::Period)
-    } else if is(field, b"deadline") {
-        Some(Rule::Deadline)
-    } else {
-        read_table(field)
+impl FromField for Rule {
+    ghost reads = { rule_of };
+
+    fn from_field(field: &[u8]) -> Option<Rule> {
+        match field {
+            b"period" => Some(Rule::Period),
+            b"deadline" => Some(Rule::Deadline),
+            _ => read_table(field),
+        }
     }
 }

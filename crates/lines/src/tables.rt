@@ -4,8 +4,7 @@ ghost use Rattle.std.specs.Option.{option_map};
 ghost use Rattle.lines.specs.Fields.{left};
 ghost use Rattle.lines.specs.Tables.{pair as pair_of, pairs as pairs_of, listed, kept, with_pair};
 
-use crate::fields::Fields;
-use crate::numbers::number;
+use crate::fields::{Fields, FromField};
 use crate::words::cut;
 use analysis::Pair;
 
@@ -45,14 +44,15 @@ impl PairList {
     }
 }
 
-/// Reads `TIME:WEIGHT`.
-fn pair(field: &[u8]) -> Option<Pair>
-    ensures { MatchOption result (pair_of field.now ≡ None) (λ p. pair_of field.now ≡ Some p) }
-{
-    let (time, weight) = cut(field, b':')?;
-    let time = number(time, u8::MAX as u64)? as u8;
-    let weight = number(weight, u16::MAX as u64)? as u16;
-    Some(Pair { time, weight })
+impl FromField for Pair {
+    ghost reads = { pair_of };
+
+    fn from_field(field: &[u8]) -> Option<Pair> {
+        let (time, weight) = cut(field, b':')?;
+        let time = u8::from_field(time)?;
+        let weight = u16::from_field(weight)?;
+        Some(Pair { time, weight })
+    }
 }
 
 /// Reads all the fields as pairs.
@@ -61,7 +61,7 @@ pub(crate) fn pairs(mut fields: Fields) -> Option<PairList>
 {
     let mut list = PairList::new();
     while let Some(field) = fields.next() {
-        list.push(pair(field)?);
+        list.push(Pair::from_field(field)?);
     }
     Some(list)
 }

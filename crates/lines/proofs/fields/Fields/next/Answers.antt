@@ -1,18 +1,25 @@
-use Rattle.std.proofs.Common.{arith, true-eqb, false-eqb}
-use Rattle.lines.proofs.Fielded.{blanks_within, first_within, next_field, none_left}
+use Rattle.std.proofs.Common.{◌≡◌, ◌-◌, ◌∙◌, not, length, take, drop, Some, None, arith, rules}
+use borrow.Author.Tests.{tests}
+use Rattle.std.specs.List.{position}
+use Rattle.std.proofs.lemmas.List.{take_all, length-drop}
+use Rattle.std.proofs.lemmas.Iterator.{YieldsList-from_slice}
+use Rattle.std.proofs.lemmas.Iterator.Search.{position_from_yields_List}
+use Rattle.lines.specs.Fields.{blank}
+use Rattle.lines.proofs.Fielded.{none_left, its_width, next_field}
 use Rattle.lines.proofs.fields.Fields.next.Goals as goal
 
-pub split_at-requires : goal.split_at-requires
-split_at-requires c = omega (arith, c.blanks_ahead.ensures, blanks_within c.args.self.now.rest.now)
-
-pub returns-then-is_empty : goal.returns-then-is_empty
-returns-then-is_empty c =
-    none_left c.args.self.now.rest.now c.split_at.result.1.now c.blanks_ahead.result c.blanks_ahead.ensures c.split_at.ensures.back (true-eqb _ 0 c.if-is_empty.ensures)
-
-pub split_at-requires-2 : goal.split_at-requires-2
-split_at-requires-2 c = omega (arith, c.first_blank.ensures, first_within c.split_at.result.1.now)
+pub returns-in_err-blanks : goal.returns-in_err-blanks
+returns-in_err-blanks c =
+    let bs = c.args.self.now.rest.now in
+    let none : None ≡ position (λ b. not (blank b)) bs = position_from_yields_List (λ b. not (blank b)) _ _ None c.in_err-blanks.ensures.ran (YieldsList-from_slice bs c.iter.ensures.rest) (λ x b q k. search (rules, tests)) in
+    rw c.from_residual.ensures (none_left bs none)
 
 pub returns : goal.returns
 returns c =
-    let some = false-eqb _ 0 c.if-is_empty.ensures in
-    next_field c.args.self.now.rest.now c.split_at.result.1.now c.split_at-2.result.0.now c.split_at-2.result.1.now c.blanks_ahead.result c.first_blank.result c.blanks_ahead.ensures c.split_at.ensures.back (omega arith) c.first_blank.ensures c.split_at-2.ensures.front c.split_at-2.ensures.back
+    let bs = c.args.self.now.rest.now in
+    let i = c.in_ok-blanks.blanks in
+    let at : Some i ≡ position (λ b. not (blank b)) bs = position_from_yields_List (λ b. not (blank b)) _ _ (Some i) c.in_ok-blanks.ensures.ran (YieldsList-from_slice bs c.iter.ensures.rest) (λ x b q k. search (rules, tests)) in
+    let line = take (length bs - i) (drop i bs) in
+    let all : line ≡ drop i bs = take_all (length bs - i) (drop i bs) (omega (arith, length-drop i bs)) in
+    let to : c.position-2.result ≡ position blank line = position_from_yields_List blank _ _ c.position-2.result c.position-2.ensures.ran (YieldsList-from_slice line c.iter-2.ensures.rest) (λ x b q k. search (rules, tests)) in
+    next_field bs line c.split_at.result.0.now c.split_at.result.1.now i c.unwrap_or-width.result at all (c.unwrap_or-width.ensures ∙ its_width line c.position-2.result to) c.split_at.ensures.front c.split_at.ensures.back
