@@ -37,6 +37,19 @@ struct Question {
     number: u32,
 }
 
+impl Question {
+    /// The question with these parts.
+    fn new(rule: Rule, place: u8, number: u32) -> Question
+        ensures { result ≡ record { rule = rule; place = place; number = number } }
+    {
+        Question {
+            rule,
+            place,
+            number,
+        }
+    }
+}
+
 /// Asks for the exact answer of a job in a kind and writes it.
 fn respond<W: Printable>(
     plan: &Plan,
@@ -82,32 +95,30 @@ fn respond_in(
 fn rounded(plan: &Plan, asked: Question) -> Answer
     ensures { answer_text result ≡ rounded_text (rounded_answer (rule_rank asked.rule) (plan_book plan.now) asked.place asked.number 257 257) }
 {
+    let Question {
+        rule,
+        place,
+        number,
+    } = asked;
     let mut answer = [Count::new(0); 257];
     let mut work = [Count::new(0); 257];
-    plan.rounded(
-        &asked.rule,
-        asked.place,
-        asked.number,
-        &mut answer,
-        &mut work,
-    )
-    .map_or_else(Answer::Refused, Answer::Late)
+    plan.rounded(&rule, place, number, &mut answer, &mut work)
+        .map_or_else(Answer::Refused, Answer::Late)
 }
 
 /// The answer to the question for the jobs of a task in a round.
 fn task(plan: &Plan, asked: Question) -> Answer
     ensures { answer_text result ≡ task_answer_text (task_answer (rule_rank asked.rule) (plan_book plan.now) asked.place asked.number 257 257) }
 {
+    let Question {
+        rule,
+        place,
+        number,
+    } = asked;
     let mut answer = [Count::new(0); 257];
     let mut work = [Count::new(0); 257];
-    plan.task(
-        &asked.rule,
-        asked.place,
-        asked.number,
-        &mut answer,
-        &mut work,
-    )
-    .map_or_else(Answer::Refused, Answer::Task)
+    plan.task(&rule, place, number, &mut answer, &mut work)
+        .map_or_else(Answer::Refused, Answer::Task)
 }
 
 /// Makes a call on a plan and writes its answer.
@@ -119,7 +130,7 @@ pub(crate) fn on_plan(
 ) -> Result<ScriptBook, AllocError>
     ensures { IfOk result (λ b. (state_of b ≡ plan_after (plan_book plan) call.now) × (out.new.items ≡ out.old.items ++ plan_reply chart (plan_book plan) call.now)) }
 {
-    match call {
+    match *call {
         Call::Enter { .. }
         | Call::Withdraw { .. }
         | Call::Opening { .. }
@@ -136,29 +147,12 @@ pub(crate) fn on_plan(
             rule,
             place,
             index,
-        } => {
-            let asked = Question {
-                rule: *rule,
-                place: *place,
-                number: *index,
-            };
-            respond_in(*kind, &plan, asked, chart, out)?
-        }
+        } => respond_in(kind, &plan, Question::new(rule, place, index), chart, out)?,
         Call::Rounded { rule, place, index } => {
-            let asked = Question {
-                rule: *rule,
-                place: *place,
-                number: *index,
-            };
-            rounded(&plan, asked).write(out)?
+            rounded(&plan, Question::new(rule, place, index)).write(out)?
         }
         Call::Task { rule, place, round } => {
-            let asked = Question {
-                rule: *rule,
-                place: *place,
-                number: *round,
-            };
-            task(&plan, asked).write(out)?
+            task(&plan, Question::new(rule, place, round)).write(out)?
         }
         Call::Show => write_plan(&plan, out)?,
     }
