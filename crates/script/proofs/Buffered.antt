@@ -1,7 +1,7 @@
 -- What a buffer gathers of a line, byte by byte.
-use Rattle.std.proofs.Common.{◌≡◌, ℕ, ◌+◌, ◌<◌, ◌≤◌, Bool, true, cond, ltb, leb, List, [], ◌∷◌, ◌++◌, length, take, set, sym, refl, ap, ◌∙◌, ⊎_elim, arith}
+use Rattle.std.proofs.Common.{◌≡◌, ℕ, ◌<◌, ◌≤◌, Bool, true, cond, ltb, leb, List, [], ◌∷◌, ◌++◌, length, take, sym, refl, ap, ◌∙◌, ⊎_elim, arith}
 use lib.Seq.{take-append-le}
-use Rattle.std.proofs.lemmas.List.{append-nil, append_assoc, length-append, length-take-le, take_all, take_more_set}
+use Rattle.std.proofs.lemmas.List.{append-nil, append_assoc, length-append, length-take-le, take_all}
 use Rattle.std.proofs.lemmas.Bool.{cases_lt, cond-true, cond-false, lt-ltb, le-ltb, le-leb, lt-leb}
 use Rattle.lines.specs.declared.reading.Line.TheVariants.{Passed, Unreadable}
 use Rattle.lines.specs.Lines.{remark, meaning}
@@ -65,9 +65,3 @@ told_gather line =
     ∙ (ap meaning (take_all 16384 line fits)
     ∙ sym (cond-true (leb (length line) 16384) (meaning line) (overlong line) (le-leb (length line) 16384 fits))))
     (cases_lt 16384 (length line))
-
--- a byte written after the others
-pub written : (bytes : List ℕ) (len b : ℕ) (over : Bool) → length bytes ≡ 16384 → len < 16384 → ◌≡◌ {A = Gathered} (record { text = take (len + 1) (set bytes len b); more = over }) (added (record { text = take len bytes; more = over }) b)
-written bytes len b over long h =
-    alike _ _ _ _ (take_more_set bytes len b (omega arith)) refl
-    ∙ sym (room (record { text = take len bytes; more = over }) b (omega (arith, length-take-le len bytes (omega arith))))

@@ -1,3 +1,2 @@
-pub mod Blanks
 pub mod Buffered
 pub mod Scripted

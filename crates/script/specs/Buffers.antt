@@ -11,7 +11,7 @@ pub record Gathered : Type 0 where
   pub more : Bool
 
 abbrev pub gathered : LineBuffer → Gathered
-gathered b = record { text = take b.len b.bytes; more = b.over }
+gathered b = record { text = b.bytes.items; more = b.over }
 
 -- what a buffer gathers of a line
 abbrev pub gather : List ℕ → Gathered

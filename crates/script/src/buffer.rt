@@ -1,5 +1,5 @@
 //! A buffer for the bytes of one line.
-ghost use Rattle.std.specs.Prelude.{◌≤◌};
+use arrayvec::ArrayVec;
 
 mod gathering;
 
@@ -9,8 +9,6 @@ const LONGEST: usize = 16384;
 /// The bytes of a line that are gathered so far: the first 16,384 are kept, and whether there were more.
 #[derive(Drop)]
 pub struct LineBuffer {
-    bytes: [u8; LONGEST],
-    len: usize,
+    bytes: ArrayVec<u8, LONGEST>,
     over: bool,
-    ghost fits: { len ≤ 16384 },
 }

@@ -15,10 +15,9 @@ use std::alloc::AllocError;
 fn write_done(edited: Result<(), Refusal>, out: &mut Vec<u8>) -> Result<(), AllocError>
     ensures { OnOk result (out.new.items ≡ out.old.items ++ done_text (answer edited)) }
 {
-    match edited {
-        Ok(()) => Answer::Done.write(out),
-        Err(refusal) => Answer::Refused(refusal).write(out),
-    }
+    edited
+        .map_or_else(Answer::Refused, |()| Answer::Done)
+        .write(out)
 }
 
 /// Makes a call on a draft and writes its answer.

@@ -1,15 +1,13 @@
 //! Calls on a plan.
-ghost use Rattle.std.specs.Prelude.{◌≡◌, ◌++◌, length, IfOk, decimal, OnOk};
-ghost use Rattle.kinds.specs.Counts.{count_ops};
-ghost use Rattle.kinds.specs.Heaviests.{heaviest_ops};
-ghost use Rattle.kinds.specs.Possibles.{possible_ops};
-ghost use Rattle.texts.specs.Texts.{possible_size, possible_text};
+ghost use Rattle.std.specs.Prelude.{◌≡◌, ◌*◌, ◌^◌, ◌<◌, ◌++◌, IfOk, OnOk};
+ghost use Rattle.std.specs.Mem.{type_size};
 ghost use Rattle.analysis.specs.Cells.{cells};
-ghost use Rattle.book.specs.Asks.{response_answer, rounded_answer, task_answer};
+ghost use Rattle.book.specs.Asks.{rounded_answer, task_answer};
+ghost use Rattle.answers.specs.Answers.{answer_text};
 ghost use Rattle.book.specs.Drafts.{plan_book};
 ghost use Rattle.lines.specs.Ranks.{rule_rank};
 ghost use Rattle.script.specs.States.{state_of};
-ghost use Rattle.script.specs.Questions.{drawn, sheet_text, job_text, kind_text, rounded_text, task_answer_text};
+ghost use Rattle.script.specs.Questions.{drawn, job_text, kind_text, rounded_text, task_answer_text};
 ghost use Rattle.script.specs.Replies.{plan_reply, plan_after};
 
 use crate::scripts::ScriptBook;
@@ -31,108 +29,47 @@ fn write_drawn<W: Printable>(sheet: &[W], chart: bool, out: &mut Vec<u8>) -> Res
     Ok(())
 }
 
-/// Asks for the exact answer of a job in a kind, on two sheets, and writes it.
+/// What a line asks of a plan: the rule that ranks the jobs, a place, and the number of a job of its task or of a round.
+#[derive(Clone, Copy)]
+struct Question {
+    rule: Rule,
+    place: u8,
+    number: u32,
+}
+
+impl Question {
+    /// The question with these parts.
+    fn new(rule: Rule, place: u8, number: u32) -> Question
+        ensures { result ≡ record { rule = rule; place = place; number = number } }
+    {
+        Question {
+            rule,
+            place,
+            number,
+        }
+    }
+}
+
+/// Asks for the exact answer of a job in a kind and writes it.
 fn respond<W: Printable>(
     plan: &Plan,
-    rule: &Rule,
-    place: u8,
-    index: u32,
-    answer: &mut [W],
-    work: &mut [W],
+    asked: Question,
     chart: bool,
     out: &mut Vec<u8>,
 ) -> Result<(), AllocError>
-    ensures { OnOk result (out.new.items ≡ out.old.items ++ sheet_text chart W.ops W.size W.text (rule_rank rule.now) (plan_book plan.now) (cells W.ops answer.old) (response_answer W.ops (rule_rank rule.now) (plan_book plan.now) place index (length answer.old) (length work.old))) }
+    requires { 257 * type_size W.row < 2 ^ 63 }
+    ensures { OnOk result (out.new.items ≡ out.old.items ++ job_text chart W.ops W.size W.text (rule_rank asked.rule) (plan_book plan.now) asked.place asked.number) }
 {
-    match plan.response(rule, place, index, answer, work) {
-        Ok(()) => write_drawn(answer, chart, out),
-        Err(refusal) => Answer::Refused(refusal).write(out),
-    }
-}
-
-/// Asks for the exact answer of a job in counts and writes it.
-fn in_counts(
-    plan: &Plan,
-    rule: &Rule,
-    place: u8,
-    index: u32,
-    chart: bool,
-    out: &mut Vec<u8>,
-) -> Result<(), AllocError>
-    ensures { OnOk result (out.new.items ≡ out.old.items ++ job_text chart count_ops (λ x. x.value) (λ x. decimal x.value) (rule_rank rule.now) (plan_book plan.now) place index) }
-{
-    let mut answer = [Count::nought(); 257];
-    let mut work = [Count::nought(); 257];
-    respond(plan, rule, place, index, &mut answer, &mut work, chart, out)?;
-    Ok(())
-}
-
-/// Asks for the exact answer of a job in possible and writes it.
-fn in_possible(
-    plan: &Plan,
-    rule: &Rule,
-    place: u8,
-    index: u32,
-    chart: bool,
-    out: &mut Vec<u8>,
-) -> Result<(), AllocError>
-    ensures { OnOk result (out.new.items ≡ out.old.items ++ job_text chart possible_ops possible_size possible_text (rule_rank rule.now) (plan_book plan.now) place index) }
-{
-    let mut answer = [Possible::nought(); 257];
-    let mut work = [Possible::nought(); 257];
-    respond(plan, rule, place, index, &mut answer, &mut work, chart, out)?;
-    Ok(())
-}
-
-/// Asks for the exact answer of a job in heaviest and writes it.
-fn in_heaviest(
-    plan: &Plan,
-    rule: &Rule,
-    place: u8,
-    index: u32,
-    chart: bool,
-    out: &mut Vec<u8>,
-) -> Result<(), AllocError>
-    ensures { OnOk result (out.new.items ≡ out.old.items ++ job_text chart heaviest_ops (λ x. x.value) (λ x. decimal x.value) (rule_rank rule.now) (plan_book plan.now) place index) }
-{
-    let mut answer = [Heaviest::nought(); 257];
-    let mut work = [Heaviest::nought(); 257];
-    respond(plan, rule, place, index, &mut answer, &mut work, chart, out)?;
-    Ok(())
-}
-
-/// Asks for the rounded late weight of a job and writes it.
-fn write_rounded(
-    plan: &Plan,
-    rule: &Rule,
-    place: u8,
-    index: u32,
-    out: &mut Vec<u8>,
-) -> Result<(), AllocError>
-    ensures { OnOk result (out.new.items ≡ out.old.items ++ rounded_text (rounded_answer (rule_rank rule.now) (plan_book plan.now) place index 257 257)) }
-{
-    let mut answer = [Count::new(0); 257];
-    let mut work = [Count::new(0); 257];
-    match plan.rounded(rule, place, index, &mut answer, &mut work) {
-        Ok(late) => Answer::Late(late).write(out),
-        Err(refusal) => Answer::Refused(refusal).write(out),
-    }
-}
-
-/// Asks for the jobs of a task in a round and writes them.
-fn write_task(
-    plan: &Plan,
-    rule: &Rule,
-    place: u8,
-    round: u32,
-    out: &mut Vec<u8>,
-) -> Result<(), AllocError>
-    ensures { OnOk result (out.new.items ≡ out.old.items ++ task_answer_text (task_answer (rule_rank rule.now) (plan_book plan.now) place round 257 257)) }
-{
-    let mut answer = [Count::new(0); 257];
-    let mut work = [Count::new(0); 257];
-    match plan.task(rule, place, round, &mut answer, &mut work) {
-        Ok(found) => Answer::Task(found).write(out),
+    let mut answer = [W::nought(); 257];
+    let mut work = [W::nought(); 257];
+    match plan.response(
+        &asked.rule,
+        asked.place,
+        asked.number,
+        &mut answer,
+        &mut work,
+    ) {
+        Ok(()) => write_drawn(&answer, chart, out),
         Err(refusal) => Answer::Refused(refusal).write(out),
     }
 }
@@ -141,19 +78,47 @@ fn write_task(
 fn respond_in(
     kind: Kind,
     plan: &Plan,
-    rule: &Rule,
-    place: u8,
-    index: u32,
+    asked: Question,
     chart: bool,
     out: &mut Vec<u8>,
 ) -> Result<(), AllocError>
-    ensures { OnOk result (out.new.items ≡ out.old.items ++ kind_text chart kind (rule_rank rule.now) (plan_book plan.now) place index) }
+    ensures { OnOk result (out.new.items ≡ out.old.items ++ kind_text chart kind (rule_rank asked.rule) (plan_book plan.now) asked.place asked.number) }
 {
     match kind {
-        Kind::Counts => in_counts(plan, rule, place, index, chart, out),
-        Kind::Possible => in_possible(plan, rule, place, index, chart, out),
-        Kind::Heaviest => in_heaviest(plan, rule, place, index, chart, out),
+        Kind::Counts => respond::<Count>(plan, asked, chart, out),
+        Kind::Possible => respond::<Possible>(plan, asked, chart, out),
+        Kind::Heaviest => respond::<Heaviest>(plan, asked, chart, out),
     }
+}
+
+/// The answer to the question for the rounded late weight of a job.
+fn rounded(plan: &Plan, asked: Question) -> Answer
+    ensures { answer_text result ≡ rounded_text (rounded_answer (rule_rank asked.rule) (plan_book plan.now) asked.place asked.number 257 257) }
+{
+    let Question {
+        rule,
+        place,
+        number,
+    } = asked;
+    let mut answer = [Count::new(0); 257];
+    let mut work = [Count::new(0); 257];
+    plan.rounded(&rule, place, number, &mut answer, &mut work)
+        .map_or_else(Answer::Refused, Answer::Late)
+}
+
+/// The answer to the question for the jobs of a task in a round.
+fn task(plan: &Plan, asked: Question) -> Answer
+    ensures { answer_text result ≡ task_answer_text (task_answer (rule_rank asked.rule) (plan_book plan.now) asked.place asked.number 257 257) }
+{
+    let Question {
+        rule,
+        place,
+        number,
+    } = asked;
+    let mut answer = [Count::new(0); 257];
+    let mut work = [Count::new(0); 257];
+    plan.task(&rule, place, number, &mut answer, &mut work)
+        .map_or_else(Answer::Refused, Answer::Task)
 }
 
 /// Makes a call on a plan and writes its answer.
@@ -165,7 +130,7 @@ pub(crate) fn on_plan(
 ) -> Result<ScriptBook, AllocError>
     ensures { IfOk result (λ b. (state_of b ≡ plan_after (plan_book plan) call.now) × (out.new.items ≡ out.old.items ++ plan_reply chart (plan_book plan) call.now)) }
 {
-    match call {
+    match *call {
         Call::Enter { .. }
         | Call::Withdraw { .. }
         | Call::Opening { .. }
@@ -182,9 +147,13 @@ pub(crate) fn on_plan(
             rule,
             place,
             index,
-        } => respond_in(*kind, &plan, rule, *place, *index, chart, out)?,
-        Call::Rounded { rule, place, index } => write_rounded(&plan, rule, *place, *index, out)?,
-        Call::Task { rule, place, round } => write_task(&plan, rule, *place, *round, out)?,
+        } => respond_in(kind, &plan, Question::new(rule, place, index), chart, out)?,
+        Call::Rounded { rule, place, index } => {
+            rounded(&plan, Question::new(rule, place, index)).write(out)?
+        }
+        Call::Task { rule, place, round } => {
+            task(&plan, Question::new(rule, place, round)).write(out)?
+        }
         Call::Show => write_plan(&plan, out)?,
     }
     Ok(ScriptBook::Plan(plan))

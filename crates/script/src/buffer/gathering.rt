@@ -2,7 +2,8 @@
 ghost use Rattle.std.specs.Prelude.{◌≡◌, [], length, ◌==◌};
 ghost use Rattle.script.specs.Buffers.{gather, gathered, added, told};
 
-use crate::buffer::{LONGEST, LineBuffer};
+use crate::buffer::LineBuffer;
+use arrayvec::ArrayVec;
 use lines::{Line, read_line};
 
 impl LineBuffer {
@@ -11,8 +12,7 @@ impl LineBuffer {
         ensures { gathered result ≡ gather [] }
     {
         LineBuffer {
-            bytes: [0; LONGEST],
-            len: 0,
+            bytes: ArrayVec::new(),
             over: false,
         }
     }
@@ -21,10 +21,7 @@ impl LineBuffer {
     pub fn push(&mut self, byte: u8)
         ensures { gathered self.new ≡ added (gathered self.old) byte }
     {
-        if self.len < LONGEST {
-            self.bytes[self.len] = byte;
-            self.len += 1;
-        } else {
+        if self.bytes.try_push(byte).is_err() {
             self.over = true;
         }
     }
@@ -33,7 +30,7 @@ impl LineBuffer {
     pub fn clear(&mut self)
         ensures { gathered self.new ≡ gather [] }
     {
-        self.len = 0;
+        self.bytes.clear();
         self.over = false;
     }
 
@@ -41,14 +38,14 @@ impl LineBuffer {
     pub fn is_empty(&self) -> bool
         ensures { result ≡ (length (gathered self.now).text == 0) }
     {
-        self.len == 0
+        self.bytes.is_empty()
     }
 
     /// Reads the line that is gathered.
     pub fn read(&self) -> Line
         ensures { result ≡ told (gathered self.now) }
     {
-        let line = &self.bytes[0..self.len];
+        let line = self.bytes.as_slice();
         if !self.over {
             read_line(line)
         } else if matches!(line, [b'#', ..]) {
