@@ -1,3 +1,4 @@
+pub mod ShortList
 pub mod Cells
 pub mod Rounding
 pub mod Refusals

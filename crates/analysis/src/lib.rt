@@ -8,6 +8,7 @@ mod passing;
 mod ranking;
 mod rounding;
 mod sheet_refusal;
+mod short_list;
 mod spans;
 mod tailing;
 
@@ -19,4 +20,5 @@ pub use passing::pass;
 pub use ranking::{DeadlineRule, PeriodRule, Ranking, TableRule};
 pub use rounding::round_tails;
 pub use sheet_refusal::SheetRefusal;
+pub use short_list::{Full, ShortList};
 pub use tailing::{clear, tails};

@@ -1,0 +1,16 @@
+-- What a contract sees of a list of at most N items.
+use Rattle.std.specs.Prelude.{ℕ, List, [], ◌∷◌, ◌++◌, length, drop, replicate}
+
+-- the items, in order, and what fills the places that are not used
+pub record ShortList (T : Type 0) : Type 0 where
+  pub items : List T
+  pub spare : List T
+
+module _ {T : Type 0} where
+  -- a list of no item, whose n places hold x
+  abbrev pub no_items : ℕ → T → ShortList T
+  no_items n x = record { items = []; spare = replicate n x }
+
+  -- one more item, in the next place
+  abbrev pub with_item : ShortList T → T → ShortList T
+  with_item s x = record { items = s.items ++ x ∷ []; spare = drop 1 s.spare }
