@@ -1,14 +1,15 @@
 //! The questions on a book, each answered by brute force.
 ghost use Rattle.std.specs.Prelude.{◌≡◌, ℕ, ◌<◌, ◌≤◌, length, MatchResult, slice_index};
+ghost use Rattle.simulator.specs.Refusals.{number, answer};
 
-use super::book::{SimBook, SimTask};
-use super::jobs::Job;
-use super::rounded::late;
+use super::asks::SimAsk;
+use super::book::SimBook;
+use super::jobs::{Counted, Job};
+use super::refusals::SimRefusal;
 use super::rules::{SimKind, SimRule};
-use super::runs::{run_all, scenarios, whole};
 
 /// How many jobs a task has in a round, and the sum of their rounded late weights.
-#[derive(Clone, Copy)]
+#[derive(Clone, Copy, PartialEq, Eq)]
 pub struct SimLateness {
     pub jobs: u32,
     pub late: u128,
@@ -30,156 +31,122 @@ fn fill(cells: &mut [u128], answer: &[u128; 257])
     requires { 257 ≤ length cells.old }
     ensures { (k : ℕ) → 257 ≤ k → slice_index cells.new k ≡ slice_index cells.old k }
 {
-    for v in 0..257 {
-        cells[v] = answer[v];
+    cells[..257].copy_from_slice(answer);
+}
+
+impl SimLateness {
+    // With one more job, of this rounded late weight.
+    fn with_job(self, late: u128) -> SimLateness {
+        SimLateness {
+            jobs: self.jobs.saturating_add(1),
+            late: self.late.saturating_add(late),
+        }
     }
 }
 
 impl SimBook {
-    // The exact answer in the kind, or the refusal's number.
-    fn answer(
-        &self,
-        kind: SimKind,
-        rule: &SimRule,
-        place: u32,
-        index: u32,
-    ) -> Result<[u128; 257], u32>
-        ensures { MatchResult result (λ _. place ≤ 15) (λ e. (11 ≤ e) × (e ≤ 13)) }
+    // The jobs that are counted for the asked one, or the refusal.
+    fn asked(&self, ask: &SimAsk) -> Result<Counted, SimRefusal>
+        ensures { MatchResult result (λ _. ask.now.place ≤ 15) (λ e. (11 ≤ number e) × (number e ≤ 12)) }
     {
-        let asked = self.job(place, index)?;
-        let mut counted = self.counted(rule, &asked);
-        if !matches!(kind, SimKind::Possible) && whole(kind, &self.opening, counted.jobs()) >= TOP {
-            return Err(13);
+        let job = self.job(ask.place, ask.index)?;
+        Ok(self.counted(&ask.rule, job))
+    }
+
+    // The exact answer in the kind, or the refusal.
+    fn exact(&self, kind: SimKind, ask: &SimAsk) -> Result<[u128; 257], SimRefusal>
+        ensures { MatchResult result (λ _. ask.now.place ≤ 15) (λ e. (11 ≤ number e) × (number e ≤ 13)) }
+    {
+        let mut counted = self.asked(ask)?;
+        if !matches!(kind, SimKind::Possible) && counted.whole(kind) >= TOP {
+            return Err(SimRefusal::TooHeavy);
         }
-        let mut cells = [0u128; 257];
-        run_all(kind, &self.opening, counted.jobs_mut(), &asked, &mut cells);
-        Ok(cells)
+        Ok(counted.run_all(kind))
     }
 
     // The rounded late weight of the job.
-    fn rounded_job(&self, rule: &SimRule, asked: &Job) -> u128 {
-        let counted = self.counted(rule, asked);
-        late(&self.opening, counted.jobs(), asked)
+    fn rounded_job(&self, rule: &SimRule, job: Job) -> u128 {
+        self.counted(rule, job).late()
     }
 
-    // Whether all jobs of the task that are released in the ticks are due in the window.
-    fn all_due(&self, task: &SimTask, from: u64, to: u64) -> bool {
+    // Whether all jobs of the place that are released in the ticks are due in the window.
+    fn all_due(&self, place: u32, from: u64, to: u64) -> bool {
         let end = self.window();
-        for release in from..to {
-            if task.releases_at(release) && task.due(release) > end {
-                return false;
-            }
-        }
-        true
+        (from..to)
+            .filter_map(|tick| self.released(place, tick))
+            .all(|job| job.due() <= end)
     }
 
-    // The number of the task's jobs that are released in the ticks, and the sum of their rounded late weights.
-    fn lateness(
-        &self,
-        rule: &SimRule,
-        place: u32,
-        task: &SimTask,
-        from: u64,
-        to: u64,
-    ) -> SimLateness {
-        let mut lateness = SimLateness { jobs: 0, late: 0 };
-        for release in from..to {
-            if task.releases_at(release) {
-                let job = Job {
-                    place,
-                    task: *task,
-                    release,
-                };
-                lateness.jobs = lateness.jobs.saturating_add(1);
-                lateness.late = lateness.late.saturating_add(self.rounded_job(rule, &job));
-            }
-        }
-        lateness
+    // The number of the place's jobs that are released in the ticks, and the sum of their rounded late weights.
+    fn lateness(&self, ask: &SimAsk, from: u64, to: u64) -> SimLateness {
+        (from..to)
+            .filter_map(|tick| self.released(ask.place, tick))
+            .map(|job| self.rounded_job(&ask.rule, job))
+            .fold(SimLateness { jobs: 0, late: 0 }, SimLateness::with_job)
     }
 
     /// How many scenarios the exact answer of the job draws, at most 2^64 − 1; 0 where the question is refused.
-    pub fn scenarios(&self, rule: &SimRule, place: u32, index: u32) -> u64
-        ensures { 15 < place → result ≡ 0 }
+    pub fn scenarios(&self, ask: &SimAsk) -> u64
+        ensures { 15 < ask.now.place → result ≡ 0 }
     {
-        match self.job(place, index) {
-            Ok(asked) => scenarios(&self.opening, self.counted(rule, &asked).jobs()),
+        match self.asked(ask) {
+            Ok(counted) => counted.scenarios(),
             Err(_) => 0,
         }
     }
 
-    /// Fills the first 257 cells with the exact answer in the kind: 0, or the refusal's number, 10 to 13, with the cells as before.
+    /// Fills the first 257 cells with the exact answer in the kind; a refusal leaves the cells.
     pub fn response(
         &self,
         kind: SimKind,
-        rule: &SimRule,
-        place: u32,
-        index: u32,
+        ask: &SimAsk,
         cells: &mut [u128],
-    ) -> u32
-        ensures numbers { result ≤ 13 }
-        ensures short { length cells.old < 257 → result ≡ 10 }
-        ensures places { result ≡ 0 → place ≤ 15 }
-        ensures refused { 0 < result → cells.new ≡ cells.old }
+    ) -> Result<(), SimRefusal>
+        ensures numbers { answer result ≤ 13 }
+        ensures short { length cells.old < 257 → answer result ≡ 10 }
+        ensures places { answer result ≡ 0 → ask.now.place ≤ 15 }
+        ensures refused { 0 < answer result → cells.new ≡ cells.old }
         ensures after { (k : ℕ) → 257 ≤ k → slice_index cells.new k ≡ slice_index cells.old k }
     {
         if cells.len() < 257 {
-            return 10;
+            return Err(SimRefusal::Cells);
         }
-        match self.answer(kind, rule, place, index) {
-            Ok(answer) => {
-                fill(cells, &answer);
-                0
-            }
-            Err(number) => number,
-        }
+        let exact = self.exact(kind, ask)?;
+        fill(cells, &exact);
+        Ok(())
     }
 
-    /// The rounded late weight of the job, or the refusal's number, 11 or 12.
-    pub fn rounded(&self, rule: &SimRule, place: u32, index: u32) -> Result<u128, u32>
-        ensures { MatchResult result (λ _. place ≤ 15) (λ e. (11 ≤ e) × (e ≤ 12)) }
+    /// The rounded late weight of the job.
+    pub fn rounded(&self, ask: &SimAsk) -> Result<u128, SimRefusal>
+        ensures { MatchResult result (λ _. ask.now.place ≤ 15) (λ e. (11 ≤ number e) × (number e ≤ 12)) }
     {
-        let asked = self.job(place, index)?;
-        Ok(self.rounded_job(rule, &asked))
+        Ok(self.asked(ask)?.late())
     }
 
-    /// The lateness of the place's task in the round, or the refusal's number, 11 or 12.
-    pub fn task(&self, rule: &SimRule, place: u32, round: u32) -> Result<SimLateness, u32>
-        ensures { MatchResult result (λ _. (place ≤ 15) × (round < self.now.rounds)) (λ e. (11 ≤ e) × (e ≤ 12)) }
+    /// The lateness of the place's task in the round.
+    pub fn task(&self, ask: &SimAsk) -> Result<SimLateness, SimRefusal>
+        ensures { MatchResult result (λ _. (ask.now.place ≤ 15) × (ask.now.index < self.now.rounds)) (λ e. (11 ≤ number e) × (number e ≤ 12)) }
     {
-        let Some(task) = self.entry(place) else {
-            return Err(11);
-        };
-        let Some(length) = self.hyperperiod() else {
-            return Err(11);
-        };
-        if round >= self.rounds {
-            return Err(11);
+        if self.entry(ask.place).is_none() || ask.index >= self.rounds {
+            return Err(SimRefusal::NoJob);
         }
-        let length = u64::from(length);
-        let from = u64::from(round).saturating_mul(length);
+        let length = u64::from(self.hyperperiod().ok_or(SimRefusal::NoJob)?);
+        let from = u64::from(ask.index).saturating_mul(length);
         let to = from.saturating_add(length);
-        if !self.all_due(&task, from, to) {
-            return Err(12);
+        if !self.all_due(ask.place, from, to) {
+            return Err(SimRefusal::Window);
         }
-        Ok(self.lateness(rule, place, &task, from, to))
+        Ok(self.lateness(ask, from, to))
     }
 
-    /// The numbers to hold the rounded answer of the job against, or the refusal's number, 11 or 12.
-    pub fn totals(&self, rule: &SimRule, place: u32, index: u32) -> Result<SimTotals, u32>
-        ensures { MatchResult result (λ t. (place ≤ 15) × (1 ≤ t.tables)) (λ e. (11 ≤ e) × (e ≤ 12)) }
+    /// The numbers to hold the rounded answer of the job against.
+    pub fn totals(&self, ask: &SimAsk) -> Result<SimTotals, SimRefusal>
+        ensures { MatchResult result (λ t. (ask.now.place ≤ 15) × (1 ≤ t.tables)) (λ e. (11 ≤ number e) × (number e ≤ 12)) }
     {
-        let asked = self.job(place, index)?;
-        let mut counted = self.counted(rule, &asked);
-        let whole = whole(SimKind::Counts, &self.opening, counted.jobs());
-        let tables = (counted.jobs().len() as u64).saturating_add(1);
-        let mut cells = [0u128; 257];
-        run_all(
-            SimKind::Counts,
-            &self.opening,
-            counted.jobs_mut(),
-            &asked,
-            &mut cells,
-        );
+        let mut counted = self.asked(ask)?;
+        let whole = counted.whole(SimKind::Counts);
+        let tables = (counted.jobs.len() as u64).saturating_add(1);
+        let cells = counted.run_all(SimKind::Counts);
         Ok(SimTotals {
             late: cells[256],
             whole,

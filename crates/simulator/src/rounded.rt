@@ -1,6 +1,7 @@
 //! The rounded answer: a distribution of the work ahead, told by its tails, each of them rounded up.
-use super::jobs::{CountedJob, Job};
+use super::jobs::Counted;
 use super::tables::SimTable;
+use std::iter;
 
 // The whole of a rounded answer.
 const WHOLE: u128 = 1_048_576;
@@ -15,9 +16,8 @@ fn divided_up(number: u128, by: u128) -> u128 {
 
 // Adds the amount to the cell of the time, or to cell 256 for a time of 256 or more.
 fn put(cells: &mut [u128], time: usize, amount: u128) {
-    let cell = time.min(256);
-    if cell < cells.len() {
-        cells[cell] = cells[cell].saturating_add(amount);
+    if let Some(cell) = cells.get_mut(time.min(256)) {
+        *cell = cell.saturating_add(amount);
     }
 }
 
@@ -31,9 +31,9 @@ fn spread(cells: &mut [u128], time: usize, amount: u128, table: &SimTable) {
 
 // Fills the cells with the differences of neighbouring tails.
 fn to_cells(tails: &[u128], cells: &mut [u128]) {
-    for (x, tail) in tails.iter().enumerate() {
-        let next = tails.get(x.saturating_add(1)).copied().unwrap_or(0);
-        put(cells, x, tail.saturating_sub(next));
+    let nexts = tails.iter().skip(1).chain(iter::once(&0));
+    for ((cell, tail), next) in cells.iter_mut().zip(tails).zip(nexts) {
+        *cell = tail.saturating_sub(*next);
     }
 }
 
@@ -63,24 +63,18 @@ fn add(cells: &[u128], first: usize, table: &SimTable, after: &mut [u128]) {
 
 // Fills the tails with those of the cells, divided by the total and rounded up.
 fn to_tails(cells: &[u128], total: u128, tails: &mut [u128]) {
-    let mut tail = 0u128;
-    for x in (0..CELLS).rev() {
-        if x < cells.len() && x < tails.len() {
-            tail = tail.saturating_add(cells[x]);
-            tails[x] = divided_up(tail, total);
-        }
+    let mut sum = 0u128;
+    for (tail, cell) in tails.iter_mut().zip(cells).rev() {
+        sum = sum.saturating_add(*cell);
+        *tail = divided_up(sum, total);
     }
 }
 
 // The tails after the opening table.
 fn open_tails(opening: &SimTable, tails: &mut [u128]) {
     let total = u128::from(opening.total());
-    for (x, place) in tails.iter_mut().enumerate() {
-        let tail = if x < 256 {
-            u128::from(opening.tail(x as u32))
-        } else {
-            0
-        };
+    for (x, place) in tails.iter_mut().take(256).enumerate() {
+        let tail = u128::from(opening.tail(x as u32));
         *place = divided_up(WHOLE.saturating_mul(tail), total);
     }
 }
@@ -96,30 +90,28 @@ fn step(tails: &mut [u128], gap: u64, first: u64, table: &SimTable) {
     to_tails(&added, u128::from(table.total()), tails);
 }
 
-// Takes every counted job in turn: a gap passes before each up to the asked one, the later ones only add to times after their release.
-fn walk(tails: &mut [u128], jobs: &[CountedJob], asked: &Job) {
-    let mut last = 0u64;
-    for job in jobs {
-        let release = job.priority.release;
-        if release <= asked.release {
-            step(tails, release.saturating_sub(last), 0, &job.table);
-            last = release;
-        } else {
-            step(
-                tails,
-                0,
-                (release - asked.release).saturating_add(1),
-                &job.table,
-            );
+impl Counted {
+    // Takes every counted job in turn: a gap passes before each up to the asked one, the later ones only add to times after their release.
+    fn walk(&self, tails: &mut [u128]) {
+        let asked = self.asked.release;
+        let mut last = 0u64;
+        for job in self.jobs.as_slice() {
+            let release = job.priority.release;
+            if release <= asked {
+                step(tails, release.saturating_sub(last), 0, &job.table);
+                last = release;
+            } else {
+                step(tails, 0, (release - asked).saturating_add(1), &job.table);
+            }
         }
     }
-}
 
-// The rounded late weight of the asked job: the tail after its deadline.
-pub(crate) fn late(opening: &SimTable, jobs: &[CountedJob], asked: &Job) -> u128 {
-    let mut tails = [0u128; CELLS];
-    open_tails(opening, &mut tails);
-    walk(&mut tails, jobs, asked);
-    let x = (asked.task.deadline as usize).saturating_add(1);
-    tails.get(x).copied().unwrap_or(0)
+    // The rounded late weight of the asked job: the tail after its deadline.
+    pub(crate) fn late(&self) -> u128 {
+        let mut tails = [0u128; CELLS];
+        open_tails(&self.opening, &mut tails);
+        self.walk(&mut tails);
+        let x = (self.asked.task.deadline as usize).saturating_add(1);
+        tails.get(x).copied().unwrap_or(0)
+    }
 }

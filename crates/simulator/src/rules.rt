@@ -1,4 +1,5 @@
 //! Ranking rules, who goes ahead of whom, and the kinds of weights.
+use super::jobs::Job;
 use super::tables::SimTable;
 
 /// A rule that ranks jobs: sixteen ranks by place, by period, by the tick of the deadline, or later releases first.
@@ -18,35 +19,22 @@ pub enum SimKind {
     Heaviest,
 }
 
-// What decides who goes ahead: the rank, then the release, then the place.
-#[derive(Clone, Copy)]
+// What decides who goes ahead: the rank, then the release, then the place. The smaller one goes ahead.
+#[derive(Clone, Copy, Default, PartialEq, Eq, PartialOrd, Ord)]
 pub(crate) struct Priority {
     pub rank: u64,
     pub release: u64,
     pub place: u32,
 }
 
-impl Priority {
-    // Whether it goes ahead of the other.
-    pub(crate) fn ahead_of(&self, other: &Priority) -> bool {
-        if self.rank != other.rank {
-            return self.rank < other.rank;
-        }
-        if self.release != other.release {
-            return self.release < other.release;
-        }
-        self.place < other.place
-    }
-}
-
 impl SimRule {
-    // The rank of the job with this place, period, deadline and release.
-    pub(crate) fn rank(&self, place: u32, period: u32, deadline: u32, release: u64) -> u64 {
+    // The rank of the job.
+    pub(crate) fn rank(&self, job: &Job) -> u64 {
         match self {
-            SimRule::Table(ranks) => ranks.get(place as usize).copied().unwrap_or(0),
-            SimRule::Period => u64::from(period),
-            SimRule::Deadline => release.saturating_add(u64::from(deadline)),
-            SimRule::LaterFirst => u64::MAX - release,
+            SimRule::Table(ranks) => ranks.get(job.place as usize).copied().unwrap_or(0),
+            SimRule::Period => u64::from(job.task.period),
+            SimRule::Deadline => job.due(),
+            SimRule::LaterFirst => u64::MAX - job.release,
         }
     }
 }

@@ -10,6 +10,7 @@ pub struct SimPair {
 }
 
 /// A time table: the first `len` of its pairs.
+// Stays: a table, a task and a book are `Copy` and lie in fixed memory; the kit's ArrayVec isn't `Copy`, so callers would be promised less.
 #[derive(Clone, Copy)]
 pub struct SimTable {
     pub pairs: [SimPair; 16],
@@ -85,11 +86,7 @@ impl SimTable {
 
     // The pairs of the table.
     pub(crate) fn pairs(&self) -> &[SimPair] {
-        if self.len <= 16 {
-            &self.pairs[0..self.len]
-        } else {
-            &self.pairs[0..16]
-        }
+        &self.pairs[..self.len.min(16)]
     }
 
     // The sum of the weights.
@@ -99,21 +96,19 @@ impl SimTable {
 
     // The largest weight.
     pub(crate) fn largest(&self) -> u32 {
-        let mut largest = 0;
-        for pair in self.pairs() {
-            largest = pair.weight.max(largest);
-        }
-        largest
+        self.pairs()
+            .iter()
+            .map(|pair| pair.weight)
+            .max()
+            .unwrap_or(0)
     }
 
     // The sum of the weights of the times from `time` on.
     pub(crate) fn tail(&self, time: u32) -> u32 {
-        let mut tail = 0u32;
-        for pair in self.pairs() {
-            if pair.time >= time {
-                tail = tail.saturating_add(pair.weight);
-            }
-        }
-        tail
+        self.pairs()
+            .iter()
+            .filter(|pair| pair.time >= time)
+            .map(|pair| pair.weight)
+            .fold(0, u32::saturating_add)
     }
 }
