@@ -28,7 +28,7 @@ impl<S: Summing> Weight for Stopped<S> {
     }
 
     fn read(weight: u32) -> Stopped<S> {
-        Stopped::new(weight as u64)
+        Stopped::new(u64::from(weight))
     }
 
     fn is_top(self) -> bool {

@@ -3,7 +3,8 @@ use Rattle.std.proofs.Common.{◌≡◌, ℕ, ◌+◌, ◌≤◌, Bool, eqb, leb
 use mathlib.Core.Path.{fun_ext}
 use Rattle.std.proofs.lemmas.Bool.Decides.{nat_tests}
 use Rattle.theory.specs.Semiring.{Ops, Laws}
-use Rattle.theory.specs.Sums.{over, kept}
+use Rattle.std.specs.List.{filter}
+use Rattle.theory.specs.Sums.{over}
 use Rattle.theory.specs.Walk.{draws, weight, sheet, rest}
 use Rattle.theory.specs.Walk.{outcome as walk_outcome, scenarios as walk_scenarios}
 use Rattle.theory.proofs.Pushed.{pushforward}
@@ -45,12 +46,12 @@ in_time_late D x h = grind (arith, nat_tests)
 module _ {K : Type 0} (ops : Ops K) where
   -- the weight of an outcome, by a test of where the walk ends
   pub weight_by_walk : (q : Question) → Sound q → (v : ℕ) (p : ℕ → Bool) → ((x : ℕ) → eqb (in_time q.deadline x) v ≡ p x)
-      → over ops (kept (λ d. p (walk_outcome (legs q) d)) (walk_scenarios (drawn_from q.opening) (legs q))) (weight ops) ≡ weight_of ops q v
+      → over ops (filter (λ d. p (walk_outcome (legs q) d)) (walk_scenarios (drawn_from q.opening) (legs q))) (weight ops) ≡ weight_of ops q v
   unfolding weight_of
   weight_by_walk q sound v p e =
-      ap (λ ds. over ops (kept (λ d. p (walk_outcome (legs q) d)) ds) (weight ops)) (same_scenarios q)
+      ap (λ ds. over ops (filter (λ d. p (walk_outcome (legs q) d)) ds) (weight ops)) (same_scenarios q)
       ∙ sym (ap (λ ds. over ops ds (weight ops)) (kept_is_sums q sound (λ x. eqb x v))
-      ∙ ap (λ (t : ℕ → Bool). over ops (kept (λ d. t (walk_outcome (legs q) d)) (scenarios q)) (weight ops)) (fun_ext e))
+      ∙ ap (λ (t : ℕ → Bool). over ops (filter (λ d. t (walk_outcome (legs q) d)) (scenarios q)) (weight ops)) (fun_ext e))
 
 module _ {K : Type 0} {ops : Ops K} {least : K → K → Type 0} (laws : Laws ops least) where
   pub walk_late : (q : Question) → Sound q → rest ops 257 (sheet ops 257 (drawn_from q.opening) (legs q)) (q.deadline + 1) ≡ weight_of ops q 256

@@ -3,7 +3,7 @@ use Rattle.std.proofs.Common.{◌≡◌, ℕ, suc, ◌+◌, ◌-◌, ◌<◌, �
 use Rattle.std.specs.List.{AllByRecursion as All}
 use Rattle.std.proofs.ByRecursion.{All-weaker}
 use Rattle.std.proofs.lemmas.Bool.{cases_lt, le-leb, lt-leb}
-use Rattle.theory.specs.Sums.{kept}
+use Rattle.std.specs.List.{filter}
 use Rattle.theory.specs.Walk.{Table, Leg, after, onward, outcome as walk_outcome}
 use Rattle.scenarios.specs.Processor.{State, state_at}
 use Rattle.scenarios.specs.Questions.{Counted, Question, scenarios, items, start, unserved_first, overlong_from, least_served, outcome}
@@ -122,7 +122,7 @@ outcome_is_sums q sound (x ∷ d) drawn =
 
 -- so a test of the outcome keeps the scenarios that the same test of the sums keeps
 pub kept_is_sums : (q : Question) → Sound q → (p : ℕ → Bool)
-    → kept (λ d. p (outcome q d)) (scenarios q) ≡ kept (λ d. p (in_time q.deadline (walk_outcome (legs q) d))) (scenarios q)
+    → filter (λ d. p (outcome q d)) (scenarios q) ≡ filter (λ d. p (in_time q.deadline (walk_outcome (legs q) d))) (scenarios q)
 kept_is_sums q sound p =
     kept_same (λ d. p (outcome q d)) (λ d. p (in_time q.deadline (walk_outcome (legs q) d))) (scenarios q)
     (All-weaker (Scenario q) (λ d. p (outcome q d) ≡ p (in_time q.deadline (walk_outcome (legs q) d))) (λ d h. ap p (outcome_is_sums q sound d h))

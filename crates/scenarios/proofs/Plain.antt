@@ -1,6 +1,7 @@
 -- Counts of tables do not stop: their tails, means and totals are those in whole numbers. Assumes nothing.
 use Rattle.std.proofs.Common.{◌≡◌, ℕ, ◌+◌, ◌*◌, ◌≤◌, Bool, true, false, cond, leb, List, [], ◌∷◌, refl, ap, ◌∙◌, mul_comm, mul-le-mul_left, mul-add, arith}
-use Rattle.theory.specs.Sums.{over, kept, mean, tail}
+use Rattle.std.specs.List.{filter}
+use Rattle.theory.specs.Sums.{over, mean, tail}
 use Rattle.theory.specs.Walk.{Table, readings, Worse}
 use Rattle.theory.specs.Rounded.{nat_ops, nat_least, total}
 use Rattle.analysis.specs.Cells.{total as total_of}
@@ -22,8 +23,8 @@ count_tail [] t = refl
 count_tail (x ∷ X) t = by (leb t x.0) (count_tail X t)
   where
     by : (b : Bool) → (tail count_ops (readings count_ops X) t).value ≡ stop (tail nat_ops (readings nat_ops X) t)
-        → (over {A = ℕ × Count} count_ops (cond b ((x.0, counted x.1) ∷ kept (λ p. leb t p.0) (readings count_ops X)) (kept (λ p. leb t p.0) (readings count_ops X))) (λ p. p.1)).value
-        ≡ stop (over {A = ℕ × ℕ} nat_ops (cond b ((x.0, x.1) ∷ kept (λ p. leb t p.0) (readings nat_ops X)) (kept (λ p. leb t p.0) (readings nat_ops X))) (λ p. p.1))
+        → (over {A = ℕ × Count} count_ops (cond b ((x.0, counted x.1) ∷ filter (λ p. leb t p.0) (readings count_ops X)) (filter (λ p. leb t p.0) (readings count_ops X))) (λ p. p.1)).value
+        ≡ stop (over {A = ℕ × ℕ} nat_ops (cond b ((x.0, x.1) ∷ filter (λ p. leb t p.0) (readings nat_ops X)) (filter (λ p. leb t p.0) (readings nat_ops X))) (λ p. p.1))
     by true ih = omega arith
     by false ih = ih
 
@@ -52,7 +53,7 @@ tail_total [] t = omega arith
 tail_total (x ∷ X) t = by (leb t x.0) (tail_total X t)
   where
     by : (b : Bool) → tail nat_ops (readings nat_ops X) t ≤ total X
-        → over {A = ℕ × ℕ} nat_ops (cond b ((x.0, x.1) ∷ kept (λ p. leb t p.0) (readings nat_ops X)) (kept (λ p. leb t p.0) (readings nat_ops X))) (λ p. p.1) ≤ x.1 + total X
+        → over {A = ℕ × ℕ} nat_ops (cond b ((x.0, x.1) ∷ filter (λ p. leb t p.0) (readings nat_ops X)) (filter (λ p. leb t p.0) (readings nat_ops X))) (λ p. p.1) ≤ x.1 + total X
     by true ih = omega arith
     by false ih = omega arith
 

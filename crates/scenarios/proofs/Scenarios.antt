@@ -1,8 +1,7 @@
 -- What holds of every scenario of a question. Assumes nothing.
 use Rattle.std.proofs.Common.{◌≡◌, ℕ, ◌<◌, Bool, List, [], ◌∷◌, map, refl}
-use Rattle.std.specs.List.{AllByRecursion as All}
+use Rattle.std.specs.List.{filter, flat_map, AllByRecursion as All}
 use Rattle.std.proofs.ByRecursion.{All-append, All-map, All-weaker}
-use Rattle.theory.specs.Sums.{kept, flat}
 use Rattle.theory.specs.Walk.{Table, draws}
 use Rattle.analysis.specs.declared.pair.Pair.{Pair}
 use Rattle.scenarios.specs.Questions.{Counted, Question, counted, drawn_from, scenarios}
@@ -20,10 +19,10 @@ Scenario q [] = ⊥
 Scenario q (x ∷ d) = (x.0 < 256) × Long (counted q) d
 
 all_drawn : (P : Table → Type 0) (Q : ℕ × ℕ → Type 0) (t : Table) (ds : List Table) → All Q t → ((x : ℕ × ℕ) → Q x → All (λ d. P (x ∷ d)) ds)
-    → All P (flat t (λ x. map (λ d. x ∷ d) ds))
+    → All P (flat_map (λ x. map (λ d. x ∷ d) ds) t)
 all_drawn P Q [] ds h f = tt
 all_drawn P Q (x ∷ t) ds h f =
-    All-append P (map (λ d. x ∷ d) ds) (flat t (λ y. map (λ d. y ∷ d) ds)) (All-map P (λ d. x ∷ d) ds (f x h.0)) (all_drawn P Q t ds h.1 f)
+    All-append P (map (λ d. x ∷ d) ds) (flat_map (λ y. map (λ d. y ∷ d) ds) t) (All-map P (λ d. x ∷ d) ds (f x h.0)) (all_drawn P Q t ds h.1 f)
 
 any : (t : Table) → All (λ x. Unit {0}) t
 any [] = tt
@@ -45,6 +44,6 @@ all_scenarios q sound =
     (λ x h. All-weaker (Long (counted q)) (λ d. Scenario q (x ∷ d)) (λ d l. (h, l)) (draws (map (λ k. drawn_from k.pairs) (counted q))) (all_long (counted q)))
 
 -- equal tests keep the same
-pub kept_same : {A : Type 0} (p r : A → Bool) (xs : List A) → All (λ x. p x ≡ r x) xs → kept p xs ≡ kept r xs
+pub kept_same : {A : Type 0} (p r : A → Bool) (xs : List A) → All (λ x. p x ≡ r x) xs → filter p xs ≡ filter r xs
 kept_same p r [] h = refl
 kept_same p r (x ∷ xs) h = rw (h.0, kept_same p r xs h.1)

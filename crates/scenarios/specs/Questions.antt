@@ -1,7 +1,8 @@
 -- A question about one job, its scenarios, the outcome of each on the processor, and the answer sheet.
 use Rattle.std.specs.Prelude.{ℕ, zero, suc, ◌+◌, Bool, false, cond, ◌||◌, List, [], ◌∷◌, ◌++◌, map, take, ◌==◌, nat_eq, nat_le, nat_lt}
 use Rattle.theory.specs.Semiring.{Ops}
-use Rattle.theory.specs.Sums.{over, kept}
+use Rattle.std.specs.List.{filter}
+use Rattle.theory.specs.Sums.{over}
 use Rattle.theory.specs.Walk.{Table, draws, weight}
 use Rattle.analysis.specs.declared.pair.Pair.{Pair}
 use Rattle.scenarios.specs.Processor.{Item, State, state_at, total, total_of}
@@ -79,7 +80,7 @@ outcome q d = cond (overlong_from (start q d) 0 (upto q)) 256 (least_served (sta
 
 -- the sum of the weights of the scenarios with that outcome
 unfoldable pub weight_of : {K : Type 0} → Ops K → Question → ℕ → K
-weight_of ops q v = over ops (kept (λ d. nat_eq (outcome q d) v) (scenarios q)) (weight ops)
+weight_of ops q v = over ops (filter (λ d. nat_eq (outcome q d) v) (scenarios q)) (weight ops)
 
 -- the answer sheet: up to the deadline the weight of each response, then nought up to 255, and the weight of all other scenarios in cell 256; cells after stay
 unfoldable pub answer : {K : Type 0} → Ops K → Question → (ℕ → K) → ℕ → K

@@ -20,6 +20,7 @@ impl Printable for Possible {
         self as u64
     }
 
+    // Stays: the new form is no plainer: a `Display` in `kinds` would match the same two cases, and be copied from here.
     fn write(self, out: &mut Vec<u8>) -> Result<(), AllocError> {
         match self {
             Possible::No => write_text(b"no", out),

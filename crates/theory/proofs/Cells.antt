@@ -2,7 +2,8 @@
 use Rattle.std.proofs.Common.{◌≡◌, ℕ, zero, suc, ◌+◌, ◌-◌, ◌*◌, ◌<◌, ◌≤◌, Bool, true, false, cond, leb, List, ◌∷◌, sym, refl, ap, ◌∙◌, subst₂, inl, inr, mul_comm, mul-le-mul_left, mul-zero, le-div_iff_mul-le, mul-suc, arith}
 use Rattle.std.proofs.lemmas.Bool.{cases_lt, le-leb, lt-leb, leb-true, both_ways}
 use Rattle.std.proofs.lemmas.Bool.Decides.{nat_tests}
-use Rattle.theory.specs.Sums.{over, kept, tail, down, cells, first}
+use Rattle.std.specs.List.{filter}
+use Rattle.theory.specs.Sums.{over, tail, down, cells, first}
 use Rattle.theory.specs.Walk.{Leg, readings, rest}
 use Rattle.theory.specs.Rounded.{nat_ops, total, up, moved, SoundLeg, ByCells}
 use Rattle.theory.proofs.Sums.{over_same, over_nought, over_least}
@@ -74,7 +75,7 @@ module _ (R : ℕ → ℕ) (down' : (x : ℕ) → R (suc x) ≤ R x) where
       top = (n, R n - R (suc n))
 
       below : List (ℕ × ℕ)
-      below = kept (λ p. leb y p.0) (cells n (λ x. R x - R (suc x)))
+      below = filter (λ p. leb y p.0) (cells n (λ x. R x - R (suc x)))
 
 moved_falls : (l : Leg) (R : ℕ → ℕ) → ((x : ℕ) → R (suc x) ≤ R x) → (y : ℕ) → moved nat_ops 257 l R (suc y) ≤ moved nat_ops 257 l R y
 moved_falls l R down' y =

@@ -1,22 +1,14 @@
 -- For code that fills a sheet: one cell more, one pair more, one old state more. Assumes nothing.
-use Rattle.std.proofs.Common.{◌≡◌, ℕ, suc, Bool, true, false, cond, eqb, List, [], ◌∷◌, ◌++◌, map, refl, ap, ◌∙◌}
+use Rattle.std.proofs.Common.{◌≡◌, ℕ, suc, Bool, true, false, cond, eqb, List, [], ◌∷◌, ◌++◌, map, ap, ◌∙◌}
+use Rattle.std.proofs.lemmas.List.Elements.{filter-append}
 use Rattle.theory.specs.Semiring.{Ops, Laws}
-use Rattle.theory.specs.Sums.{over, kept, cell, down, cells}
+use Rattle.theory.specs.Sums.{over, cell, down, cells}
 use Rattle.theory.specs.Walk.{stepped}
 use Rattle.theory.proofs.Sums.{nought_sum, over_append}
 
-pub kept_append : {A : Type 0} (p : A → Bool) (xs ys : List A) → kept p (xs ++ ys) ≡ kept p xs ++ kept p ys
-kept_append p [] ys = refl
-kept_append p (x ∷ xs) ys = by (p x) (kept_append p xs ys)
-  where
-    by : (b : Bool) → kept p (xs ++ ys) ≡ kept p xs ++ kept p ys
-        → cond b (x ∷ kept p (xs ++ ys)) (kept p (xs ++ ys)) ≡ cond b (x ∷ kept p xs) (kept p xs) ++ kept p ys
-    by true e = ap (λ zs. x ∷ zs) e
-    by false e = e
-
 module _ {K : Type 0} {ops : Ops K} {least : K → K → Type 0} (laws : Laws ops least) where
   pub cell_append : (S T : List (ℕ × K)) (v : ℕ) → cell ops (S ++ T) v ≡ ops.sum (cell ops S v) (cell ops T v)
-  cell_append S T v = ap (λ zs. over ops zs (λ p. p.1)) (kept_append (λ p. eqb p.0 v) S T) ∙ over_append laws _ _ (λ p. p.1)
+  cell_append S T v = ap (λ zs. over ops zs (λ p. p.1)) (filter-append (λ p. eqb p.0 v) S T) ∙ over_append laws _ _ (λ p. p.1)
 
   -- the write of an inner turn: cell y takes c more, the others stay
   pub cell_push : (S : List (ℕ × K)) (y : ℕ) (c : K) (v : ℕ)

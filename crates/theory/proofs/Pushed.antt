@@ -1,15 +1,16 @@
 -- The sheet holds the weights of the scenarios. Assumes nothing.
 use Rattle.std.proofs.Common.{◌≡◌, ℕ, zero, suc, ◌<◌, ◌≤◌, eqb, leb, List, [], ◌∷◌, ◌++◌, map, sym, refl, ap, ◌∙◌, ap₂, inl, inr, arith}
 use Rattle.std.proofs.lemmas.Bool.{cases_eq, eq-eqb, ne_eqb}
+use Rattle.std.proofs.lemmas.Bool.Decides.{nat_tests}
+use Rattle.std.specs.List.{filter, flat_map}
 use Rattle.theory.specs.Semiring.{Ops, Laws}
-use Rattle.theory.specs.Sums.{over, kept, flat, weigh, mean, cell, tail, Below, down, cells}
+use Rattle.theory.specs.Sums.{over, weigh, mean, cell, tail, Below, down, cells}
 use Rattle.theory.specs.Walk.{Table, Leg, readings, draws, weight, onward, outcome, scenarios, stepped, next, run, sheet, Stays}
 use Rattle.theory.specs.Theorems.{Pushforward}
 use Rattle.theory.proofs.Sums.{over_same, over_map, nought_sum, distributes_right, over_flat, over_scaled, over_nought, over_sum, over_kept}
 
 eqb_sym : (a b : ℕ) → eqb a b ≡ eqb b a
-eqb_sym a b =
-    elim (cases_eq a b) [ inl e ↦ eq-eqb a b e ∙ sym (eq-eqb b a (sym e)) | inr ne ↦ ne_eqb a b ne ∙ sym (ne_eqb b a (λ e. ne (sym e))) ]
+eqb_sym a b = grind (arith, nat_tests)
 
 -- STATES BELOW n
 pub below_append : {B : Type 0} (n : ℕ) (xs ys : List (ℕ × B)) → Below n xs → Below n ys → Below n (xs ++ ys)
@@ -127,7 +128,7 @@ module _ {K : Type 0} {ops : Ops K} {least : K → K → Type 0} (laws : Laws op
 
   -- one more table to draw from
   drawn : (t : Table) (D : List Table) (G : Table → K)
-      → over ops (flat t (λ q. map (λ d. q ∷ d) D)) (λ e. ops.product (weight ops e) (G e))
+      → over ops (flat_map (λ q. map (λ d. q ∷ d) D) t) (λ e. ops.product (weight ops e) (G e))
       ≡ over ops t (λ q. ops.product (ops.read q.1) (over ops D (λ d. ops.product (weight ops d) (G (q ∷ d)))))
   drawn t D G =
       over_flat laws t (λ q. map (λ d. q ∷ d) D) (λ e. ops.product (weight ops e) (G e))
@@ -158,7 +159,7 @@ module _ {K : Type 0} {ops : Ops K} {least : K → K → Type 0} (laws : Laws op
       ∙ mean_gathered n (readings ops opening) (ahead ops ls f) (below_readings ops n opening within)
 
   pub pushed : (n : ℕ) (opening : Table) (ls : List Leg) → Below n opening → Stays n ls → (v : ℕ) → v < n
-      → sheet ops n opening ls v ≡ over ops (kept (λ d. eqb (outcome ls d) v) (scenarios opening ls)) (weight ops)
+      → sheet ops n opening ls v ≡ over ops (filter (λ d. eqb (outcome ls d) v) (scenarios opening ls)) (weight ops)
   pushed n opening ls within stays v h =
       let f : ℕ → K = λ x. weigh ops (eqb x v) in
       sym (cell_back n (sheet ops n opening ls) v h)

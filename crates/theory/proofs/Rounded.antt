@@ -1,5 +1,6 @@
 -- The rounded walk stays close to the exact one. Assumes nothing.
 use Rattle.std.proofs.Common.{◌≡◌, ℕ, suc, ◌+◌, ◌-◌, ◌*◌, ◌^◌, ◌<◌, ◌≤◌, leb, List, [], ◌∷◌, map, length, sym, ap, ◌∙◌, subst, subst₂, add_assoc, mul-le-mul_right, mod-lt, mul_assoc, mul_comm, add-mul, mul-le-mul, add_comm, mul-le-mul_left, one-mul, div-add-mod', zero-add, zero-mul, mul-one, mul-suc, mul-add, arith}
+use Rattle.std.proofs.Math.Nat.{suc-mul}
 use Rattle.theory.specs.Semiring.{Laws}
 use Rattle.theory.specs.Sums.{mean, cell, tail, Below, cells, first}
 use Rattle.theory.specs.Walk.{Table, Leg, readings, next, run, sheet, rest}
@@ -82,8 +83,8 @@ close_next C P n l s R sound close y = subst (λ (z : ℕ). Close C (P * d) (suc
     mul_assoc R' d P,
     ap (λ z. R' * z) (mul_comm d P),
     add-mul a d P,
-    suc_times (R' * d) P,
-    suc_times n (P * d),
+    suc-mul (R' * d) P,
+    suc-mul n (P * d),
     shuffled,
     mul_comm d P,
   );
@@ -114,9 +115,6 @@ close_next C P n l s R sound close y = subst (λ (z : ℕ). Close C (P * d) (suc
     exact =
         rest_next nat_laws 257 l s y sound.stays
         ∙ tail_by_times nat_laws 257 l.move (cells 257 s) X y sound.rises (below_cells 257 257 s (omega arith))
-
-    suc_times : (u v : ℕ) → suc u * v ≡ u * v + v
-    suc_times u v = mul_comm (suc u) v ∙ mul-suc v u ∙ ap (λ z. z + v) (mul_comm v u)
 
     shuffled : d * (n * P) ≡ n * (P * d)
     shuffled = mul_comm d (n * P) ∙ mul_assoc n P d

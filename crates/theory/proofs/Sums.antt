@@ -1,8 +1,9 @@
 -- What the laws give of sums over lists. Assumes nothing.
 use Rattle.std.proofs.Common.{◌≡◌, Bool, true, false, cond, List, [], ◌∷◌, ◌++◌, map, sym, refl, ap, ◌∙◌, ap₂}
 use mathlib.Core.Path.{fun_ext}
+use Rattle.std.specs.List.{filter, flat_map}
 use Rattle.theory.specs.Semiring.{Ops, Laws}
-use Rattle.theory.specs.Sums.{over, kept, flat, weigh}
+use Rattle.theory.specs.Sums.{over, weigh}
 
 pub over_same : {K A : Type 0} (ops : Ops K) (xs : List A) (f g : A → K) → ((x : A) → f x ≡ g x) → over ops xs f ≡ over ops xs g
 over_same ops xs f g e = ap (over ops xs) (fun_ext e)
@@ -40,9 +41,9 @@ module _ {K : Type 0} {ops : Ops K} {least : K → K → Type 0} (laws : Laws op
   over_append [] ys f = sym (laws.sum_nought (over ops ys f))
   over_append (x ∷ xs) ys f = ap (ops.sum (f x)) (over_append xs ys f) ∙ sym (laws.sum_assoc (f x) (over ops xs f) (over ops ys f))
 
-  pub over_flat : {A B : Type 0} (xs : List A) (h : A → List B) (f : B → K) → over ops (flat xs h) f ≡ over ops xs (λ x. over ops (h x) f)
+  pub over_flat : {A B : Type 0} (xs : List A) (h : A → List B) (f : B → K) → over ops (flat_map h xs) f ≡ over ops xs (λ x. over ops (h x) f)
   over_flat [] h f = refl
-  over_flat (x ∷ xs) h f = over_append (h x) (flat xs h) f ∙ ap (ops.sum (over ops (h x) f)) (over_flat xs h f)
+  over_flat (x ∷ xs) h f = over_append (h x) (flat_map h xs) f ∙ ap (ops.sum (over ops (h x) f)) (over_flat xs h f)
 
   pub over_scaled : {A : Type 0} (c : K) (xs : List A) (f : A → K) → over ops xs (λ x. ops.product c (f x)) ≡ ops.product c (over ops xs f)
   over_scaled c [] f = sym (nought_product c)
@@ -65,15 +66,15 @@ module _ {K : Type 0} {ops : Ops K} {least : K → K → Type 0} (laws : Laws op
 
   -- a sum over the elements that pass a test
   pub over_kept : {A : Type 0} (p : A → Bool) (xs : List A) (f : A → K)
-      → over ops (kept p xs) f ≡ over ops xs (λ x. ops.product (f x) (weigh ops (p x)))
+      → over ops (filter p xs) f ≡ over ops xs (λ x. ops.product (f x) (weigh ops (p x)))
   over_kept p [] f = refl
   over_kept {A} p (x ∷ xs) f = by (p x) (over_kept p xs f)
     where
       rest : K
       rest = over ops xs (λ y. ops.product (f y) (weigh ops (p y)))
 
-      by : (b : Bool) → over ops (kept p xs) f ≡ rest
-          → over ops (cond b (x ∷ kept p xs) (kept p xs)) f ≡ ops.sum (ops.product (f x) (weigh ops b)) rest
+      by : (b : Bool) → over ops (filter p xs) f ≡ rest
+          → over ops (cond b (x ∷ filter p xs) (filter p xs)) f ≡ ops.sum (ops.product (f x) (weigh ops b)) rest
       by true h = ap₂ ops.sum (sym (unit_product (f x))) h
       by false h = h ∙ sym (ap (λ u. ops.sum u rest) (nought_product (f x)) ∙ laws.sum_nought rest)
 

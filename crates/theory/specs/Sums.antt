@@ -1,20 +1,12 @@
 -- Sums over lists, and spreads: lists of (state, weight), read as finite formal sums. Assumes nothing.
-use Rattle.std.specs.Prelude.{ℕ, zero, suc, ◌<◌, Bool, cond, List, [], ◌∷◌, ◌++◌, map, nat_eq, nat_le}
+use Rattle.std.specs.Prelude.{ℕ, zero, suc, ◌<◌, Bool, cond, List, [], ◌∷◌, map, nat_eq, nat_le}
+use Rattle.std.specs.List.{filter}
 use Rattle.theory.specs.Semiring.{Ops}
 
 -- the sum of f over a list
 abbrev pub over : {K A : Type 0} → Ops K → List A → (A → K) → K
 over ops [] f = ops.nought
 over ops (x ∷ xs) f = ops.sum (f x) (over ops xs f)
-
--- the elements that pass a test
-abbrev pub kept : {A : Type 0} → (A → Bool) → List A → List A
-kept p [] = []
-kept p (x ∷ xs) = cond (p x) (x ∷ kept p xs) (kept p xs)
-
-abbrev pub flat : {A B : Type 0} → List A → (A → List B) → List B
-flat [] f = []
-flat (x ∷ xs) f = f x ++ flat xs f
 
 -- a test as a weight
 abbrev pub weigh : {K : Type 0} → Ops K → Bool → K
@@ -26,10 +18,10 @@ mean ops S f = over ops S (λ p. ops.product p.1 (f p.0))
 
 -- the weight at v, and the weight at y and above
 abbrev pub cell : {K : Type 0} → Ops K → List (ℕ × K) → ℕ → K
-cell ops S v = over ops (kept (λ p. nat_eq p.0 v) S) (λ p. p.1)
+cell ops S v = over ops (filter (λ p. nat_eq p.0 v) S) (λ p. p.1)
 
 abbrev pub tail : {K : Type 0} → Ops K → List (ℕ × K) → ℕ → K
-tail ops S y = over ops (kept (λ p. nat_le y p.0) S) (λ p. p.1)
+tail ops S y = over ops (filter (λ p. nat_le y p.0) S) (λ p. p.1)
 
 -- each state is below n
 abbrev pub Below : {B : Type 0} → ℕ → List (ℕ × B) → Type 0

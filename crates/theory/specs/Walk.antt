@@ -1,7 +1,8 @@
 -- Tables, legs, scenarios, and the sheet that is computed leg by leg. Assumes nothing.
 use Rattle.std.specs.Prelude.{◌≡◌, ℕ, ◌+◌, ◌-◌, ◌<◌, ◌≤◌, min, cond, List, [], ◌∷◌, map, nat_le}
+use Rattle.std.specs.List.{flat_map}
 use Rattle.theory.specs.Semiring.{Ops}
-use Rattle.theory.specs.Sums.{flat, cell, tail, Below, cells}
+use Rattle.theory.specs.Sums.{cell, tail, Below, cells}
 
 -- (time, weight) pairs
 abbrev pub Table : Type 0
@@ -18,7 +19,7 @@ readings ops table = map (λ q. (q.0, ops.read q.1)) table
 -- SCENARIOS: one pair from each table, in every way
 abbrev pub draws : List Table → List Table
 draws [] = [] ∷ []
-draws (t ∷ ts) = flat t (λ q. map (λ d. q ∷ d) (draws ts))
+draws (t ∷ ts) = flat_map (λ q. map (λ d. q ∷ d) (draws ts)) t
 
 abbrev pub weight : {K : Type 0} → Ops K → Table → K
 weight ops [] = ops.unit
@@ -40,7 +41,7 @@ scenarios opening legs = draws (opening ∷ map (λ l. l.table) legs)
 -- SHEETS
 -- every way to go on from a spread, with a pair of X
 abbrev pub stepped : {K : Type 0} → Ops K → (ℕ → ℕ → ℕ) → List (ℕ × K) → List (ℕ × K) → List (ℕ × K)
-stepped ops move S X = flat S (λ p. map (λ q. (move p.0 q.0, ops.product p.1 q.1)) X)
+stepped ops move S X = flat_map (λ p. map (λ q. (move p.0 q.0, ops.product p.1 q.1)) X) S
 
 -- new cell y: the sum over old cells x and pairs (t, w) with move x t = y of cell x × read w
 abbrev pub next : {K : Type 0} → Ops K → ℕ → Leg → (ℕ → K) → ℕ → K
