@@ -11,7 +11,7 @@ pub trait Ranking {
 }
 
 /// The rank stands in a table, by place; a place above 15 counts as 15.
-#[derive(Clone, Copy)]
+#[derive(Clone, Copy, Debug, PartialEq, Eq)]
 pub struct TableRule {
     pub ranks: [u64; 16],
 }
@@ -25,7 +25,7 @@ impl Ranking for TableRule {
 }
 
 /// The shorter period goes ahead.
-#[derive(Clone, Copy)]
+#[derive(Clone, Copy, Debug, PartialEq, Eq)]
 pub struct PeriodRule;
 
 impl Ranking for PeriodRule {
@@ -37,7 +37,7 @@ impl Ranking for PeriodRule {
 }
 
 /// The earlier deadline goes ahead.
-#[derive(Clone, Copy)]
+#[derive(Clone, Copy, Debug, PartialEq, Eq)]
 pub struct DeadlineRule;
 
 impl Ranking for DeadlineRule {

@@ -47,10 +47,7 @@ fn in_heaviest(rt: HostRuntime) {
 #[test]
 fn a_short_sheet_is_refused(rt: HostRuntime) {
     let mut sheet = [Count::new(7); 256];
-    match respond(&mut sheet, &FIRST, 3, &SECOND) {
-        Ok(()) => assert!(rt; false),
-        Err(refusal) => assert!(rt; refusal == SheetRefusal::Short),
-    }
+    assert!(rt; respond(&mut sheet, &FIRST, 3, &SECOND) == Err(SheetRefusal::Short));
     assert!(rt; sheet[0].value() == 7);
     assert!(rt; sheet[255].value() == 7);
 }
