@@ -1,6 +1,7 @@
 //! Reading what a draft holds.
 ghost use Rattle.std.specs.Prelude.{◌≡◌, None, slice_index_or};
 ghost use Rattle.book.specs.Drafts.{draft_book};
+ghost use Rattle.board.specs.Model.{hyperperiod};
 ghost use Rattle.board.specs.Places.{place_of};
 ghost use Rattle.board.specs.Tables.{table_pairs};
 
@@ -27,5 +28,15 @@ impl Draft {
         ensures { result ≡ (draft_book self.now).rounds }
     {
         self.rounds
+    }
+
+    /// The hyperperiod of the tasks.
+    pub(crate) fn hyperperiod(&self) -> u16
+        ensures { result ≡ hyperperiod (draft_book self.now).places }
+    {
+        let Some(hyper) = self.entries.hyperperiod() else {
+            unreachable!()
+        };
+        hyper
     }
 }

@@ -46,6 +46,6 @@ impl Plan {
         ensures is { result ≡ window (plan_book self.now) }
         ensures bound { result ≤ 32768 }
     {
-        self.draft.rounds as u32 * self.draft.entries.hyperperiod() as u32
+        self.draft.rounds as u32 * self.draft.hyperperiod() as u32
     }
 }

@@ -27,7 +27,7 @@ impl Plan {
         if round >= self.draft.rounds as u32 {
             return Err(Refusal::NoJob);
         }
-        let jobs = (self.draft.entries.hyperperiod() / task.period) as u32;
+        let jobs = (self.draft.hyperperiod() / task.period) as u32;
         let first = round * jobs;
         let last = task.release_of(first + jobs - 1);
         if last + task.deadline as u64 > self.window() as u64 {

@@ -5,4 +5,4 @@ use Rattle.book.proofs.drafts.Draft.adopt.Goals as goal
 
 pub invariant_of-self : goal.invariant_of-self
 invariant_of-self c =
-    record { sound = bounds_lawful (places c.args.self.now.entries) (places c.args.next) c.args.self.now.rounds c.hyperperiod-hyper.result c.jobs.result c.args.self.now.sound (entries_lawful c.args.next) c.hyperperiod-hyper.ensures c.if-hyper-gt4096.false c.jobs.ensures c.if-jobs-gt64.false }
+    record { sound = bounds_lawful (places c.args.self.now.entries) (places c.args.next) c.args.self.now.rounds c.in-Some.hyper c.jobs.result c.args.self.now.sound (entries_lawful c.args.next) c.in-Some.ensures.0 c.in-Some.ensures.1 c.jobs.ensures c.if-jobs-gt64.false }
