@@ -5,7 +5,7 @@ use Rattle.analysis.specs.declared.pair.Pair.{Pair}
 use Rattle.scenarios.specs.Theorems.{Sound}
 use Rattle.board.specs.Pairs.{lawful}
 use Rattle.board.specs.Model.{Entry, Book, new_book, all_lawful, hyperperiod, jobs, bounded, book_lawful, window}
-use Rattle.board.specs.Jobs.{Rule, due}
+use Rattle.board.specs.Jobs.{Rule, due, release_of}
 use Rattle.book.specs.Moves.{enter_refusal, with_places}
 use Rattle.board.specs.Questions.{question_of}
 use Rattle.book.specs.Asks.{within, job_at}
@@ -74,4 +74,4 @@ module _ (b : Book) (ok : LawfulBook b) where
       let entries = (limits b.places b.rounds ok.entries_sound).entries_lawful in
       let soon : due (job_at place e i) ≤ 32768 = le_trans (leb-true (due (job_at place e i)) (window b) inside) (window_high b.places b.rounds ok.entries_sound) in
       sound_question rule b.places b.opening (job_at place e i) entries ok.opening_lawful
-      (stands_in b.places place i e ok.sixteen is soon (ranges_at b.places place e entries (sym is)).deadline_low)
+      (stands_in b.places place i (release_of e i) e ok.sixteen is refl soon (ranges_at b.places place e entries (sym is)).deadline_low)
