@@ -13,7 +13,8 @@ use Rattle.board.specs.Places.{entry_of}
 use Rattle.book.specs.Asks.{rounded_late, task_of, ReleasedIn, round_jobs, job_at, late_sum}
 use Rattle.board.proofs.Records.{entries_lawful, entries_long}
 use Rattle.board.proofs.At.{Ranges, ranges_at}
-use Rattle.book.proofs.Asked.{stands_at}
+use Rattle.board.proofs.Standing.{stands_true}
+use Rattle.book.proofs.Asked.{stands_in}
 use Rattle.book.proofs.Window.{window_high}
 use Rattle.book.proofs.Rounds.{Sized, sized, released_in, each_inside, task_outside, round_inside, round_outside}
 
@@ -26,7 +27,9 @@ module _ (p : Plan) (place : ℕ) (e : Entry) (is : get_or (plan_book p).places 
 
   -- job k with its release r stands in the book
   pub plan_stands : (k r : ℕ) → r ≡ release_of e k → r + e.deadline ≤ 32768 → stands (plan_book p).places (record { place = place; entry = e; release = r }) ≡ true
-  plan_stands k r same soon = stands_at (plan_book p).places place k r e (plan_long p) is same (omega (arith, same)) plan_ranges.deadline_low
+  plan_stands k r same soon =
+      stands_true (plan_book p).places (record { place = place; entry = e; release = r })
+      (stands_in (plan_book p).places place k r e (plan_long p) is same soon plan_ranges.deadline_low)
 
   pub plan_released : (round : ℕ) → ReleasedIn (plan_book p) e round (round * round_jobs (plan_book p) e) (round_jobs (plan_book p) e)
   plan_released round = released_in (plan_book p) place e round p.draft.sound is

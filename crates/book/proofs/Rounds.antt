@@ -1,5 +1,7 @@
 -- The jobs of one task that a round releases.
-use Rattle.std.proofs.Common.{◌≡◌, ℕ, zero, suc, ◌+◌, ◌-◌, ◌*◌, ◌/◌, ◌%◌, ◌<◌, ◌≤◌, true, false, eqb, ltb, List, [], ◌∷◌, get_or, Some, None, Err, Option, sym, refl, ap, ◌∙◌, subst, le_trans, mul-le-mul_right, mul_assoc, add-mul, one-mul, div-add-mod', zero-mul, arith}
+use Rattle.std.proofs.Common.{◌≡◌, ℕ, zero, suc, ◌+◌, ◌-◌, ◌*◌, ◌/◌, ◌%◌, ◌<◌, ◌≤◌, true, false, eqb, ltb, List, [], ◌∷◌, get_or, Some, None, Err, Option, sym, refl, ap, ◌∙◌, subst, le_trans, mul-le-mul_right, mul_assoc, add-mul, one-mul, zero-mul, arith}
+use Rattle.std.proofs.lemmas.Nat.Gcd.{dvd_of_mod-eq-zero}
+use Rattle.std.proofs.Math.Nat.{div-mul_cancel}
 use Rattle.std.proofs.lemmas.Bool.{and_parts, and_from, and_right, eqb-true, leb-true, le-leb, lt-leb, lt-ltb, cond-true, cond-false}
 use Rattle.board.specs.Model.{Entry, Book, divided, hyperperiod, jobs, book_lawful, window}
 use Rattle.board.specs.Jobs.{Rule, due, release_of}
@@ -34,9 +36,6 @@ pub record InRound (b : Book) (e : Entry) : Type 0 where
   pub high : round_jobs b e ≤ 64
   pub fills : round_jobs b e * e.period ≡ hyperperiod b.places
 
-whole_parts : (h p : ℕ) → h % p ≡ 0 → h / p * p ≡ h
-whole_parts h p e = let d = div-add-mod' h p in omega arith
-
 some_parts : (h n p : ℕ) → 1 ≤ h → n * p ≡ h → 1 ≤ n
 some_parts h zero p pos e = let z = zero-mul p in omega arith
 some_parts h (suc n) p pos e = omega arith
@@ -45,7 +44,7 @@ pub in_round : (b : Book) (place : ℕ) (e : Entry) → book_lawful b.places b.r
 in_round b place e ok is =
     let least = hyper_least b.places b.rounds ok in
     let h = hyperperiod b.places in
-    let fills = whole_parts h e.period (divided_at b.places place h e least.common is) in
+    let fills = div-mul_cancel e.period (dvd_of_mod-eq-zero e.period (divided_at b.places place h e least.common is)) in
     record {
       low = some_parts h (h / e.period) e.period least.positive fills;
       high = le_trans (jobs_at b.places place h e is) (limits b.places b.rounds ok).jobs_high;

@@ -37,6 +37,7 @@ pub enum Refusal {
 }
 
 impl Refusal {
+    // Stays: `u8::from` would be no plainer, as the body is one cast and the name `number` says what the u8 is.
     /// The number of the reason.
     pub fn number(self) -> u8
         ensures { result ≡ number self }

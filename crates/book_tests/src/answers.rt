@@ -1,16 +1,21 @@
 //! What the tests share.
 use analysis::{Count, DeadlineRule, Pair};
-use book::{Plan, Refusal};
+use book::{Draft, Plan, Refusal};
+use std::process::Abort;
 
 /// Half of the weight at each of two times.
 pub(crate) const HALVES: [Pair; 2] = [Pair { time: 1, weight: 1 }, Pair { time: 3, weight: 1 }];
 
 /// The answer, or the number of its refusal.
 pub(crate) fn told<T>(answer: Result<T, Refusal>) -> Result<T, u8> {
-    match answer {
-        Ok(value) => Ok(value),
-        Err(refusal) => Err(refusal.number()),
-    }
+    answer.map_err(Refusal::number)
+}
+
+/// A draft of one task, at place 0, with period 4 and deadline 2.
+pub(crate) fn one_task(rt: &impl Abort) -> Draft {
+    let mut draft = Draft::new();
+    assert_eq!(rt; told(draft.enter(0, 4, 0, 2, &HALVES)), Ok(()));
+    draft
 }
 
 /// What `rounded` answers under the deadline rule.
@@ -22,10 +27,5 @@ pub(crate) fn late(plan: &Plan, place: u8, index: u32) -> Result<u64, u8> {
 
 /// Whether each of the cells has the value.
 pub(crate) fn all_are(cells: &[Count], value: u64) -> bool {
-    for cell in cells {
-        if cell.value() != value {
-            return false;
-        }
-    }
-    true
+    cells.iter().all(|cell| cell.value() == value)
 }

@@ -1,5 +1,5 @@
 //! Edits of a draft.
-use super::answers::{HALVES, late, told};
+use super::answers::{HALVES, late, one_task, told};
 use analysis::Pair;
 use book::Draft;
 
@@ -31,10 +31,8 @@ fn at(time: u8) -> Pair {
 
 // Gives the pairs the times 0, 1, 2 and so on.
 fn count_times(pairs: &mut [Pair]) {
-    let mut time: u8 = 0;
-    for pair in pairs.iter_mut() {
+    for (pair, time) in pairs.iter_mut().zip(0..=255) {
         pair.time = time;
-        time = time.wrapping_add(1);
     }
 }
 
@@ -83,8 +81,7 @@ fn periods_fit_together(rt: HostRuntime) {
 
 #[test]
 fn a_refused_edit_leaves_the_draft(rt: HostRuntime) {
-    let mut draft = Draft::new();
-    assert_eq!(rt; told(draft.enter(0, 4, 0, 2, &HALVES)), Ok(()));
+    let mut draft = one_task(&rt);
     assert_eq!(rt; told(draft.enter(0, 4, 0, 255, &HALVES)), Err(4));
     assert_eq!(rt; told(draft.withdraw(16)), Err(1));
     assert_eq!(rt; told(draft.withdraw(1)), Err(8));
@@ -98,8 +95,7 @@ fn a_refused_edit_leaves_the_draft(rt: HostRuntime) {
 
 #[test]
 fn withdraw_empties_a_place(rt: HostRuntime) {
-    let mut draft = Draft::new();
-    assert_eq!(rt; told(draft.enter(0, 4, 0, 2, &HALVES)), Ok(()));
+    let mut draft = one_task(&rt);
     assert_eq!(rt; told(draft.enter(15, 4, 0, 2, &HALVES)), Ok(()));
     assert_eq!(rt; told(draft.withdraw(15)), Ok(()));
     assert_eq!(rt; told(draft.withdraw(15)), Err(8));

@@ -1,5 +1,5 @@
 //! Questions on a plan.
-use super::answers::{HALVES, all_are, late, told};
+use super::answers::{HALVES, all_are, late, one_task, told};
 use analysis::{Count, DeadlineRule, Pair, PeriodRule, Ranking};
 use book::{Draft, Plan};
 
@@ -78,8 +78,7 @@ fn jobs_lie_in_the_window(rt: HostRuntime) {
 // Of the opening work and job 0, nothing or 2 ticks are left when job 1 is released.
 #[test]
 fn opening_work_delays_jobs(rt: HostRuntime) {
-    let mut draft = Draft::new();
-    assert_eq!(rt; told(draft.enter(0, 4, 0, 2, &HALVES)), Ok(()));
+    let mut draft = one_task(&rt);
     assert_eq!(rt; told(draft.rounds(2)), Ok(()));
     let plan = draft.issue();
     assert_eq!(rt; late(&plan, 0, 0), Ok(524_288));
@@ -93,8 +92,7 @@ fn opening_work_delays_jobs(rt: HostRuntime) {
 
 #[test]
 fn rounds_have_jobs(rt: HostRuntime) {
-    let mut draft = Draft::new();
-    assert_eq!(rt; told(draft.enter(0, 4, 0, 2, &HALVES)), Ok(()));
+    let mut draft = one_task(&rt);
     assert_eq!(rt; told(draft.rounds(2)), Ok(()));
     let plan = draft.issue();
     for (place, round, answer) in [
@@ -112,8 +110,7 @@ fn rounds_have_jobs(rt: HostRuntime) {
 // job of place 1 waits for both.
 #[test]
 fn rules_decide_who_waits(rt: HostRuntime) {
-    let mut draft = Draft::new();
-    assert_eq!(rt; told(draft.enter(0, 4, 0, 2, &HALVES)), Ok(()));
+    let mut draft = one_task(&rt);
     assert_eq!(rt;
         told(draft.enter(1, 8, 0, 6, &[Pair { time: 4, weight: 1 }])),
         Ok(())

@@ -98,13 +98,10 @@ fn other_kinds_answer_too(rt: HostRuntime) {
 fn refused(rt: &impl Abort, plan: &Plan, place: u8, index: u32) -> u8 {
     let mut answer = [Count::new(7); 257];
     let mut work = [Count::new(8); 257];
-    let number = match told(plan.response(&DeadlineRule, place, index, &mut answer, &mut work)) {
-        Ok(()) => 0,
-        Err(number) => number,
-    };
+    let told = told(plan.response(&DeadlineRule, place, index, &mut answer, &mut work));
     assert!(rt; all_are(&answer, 7));
     assert!(rt; all_are(&work, 8));
-    number
+    told.err().unwrap_or(0)
 }
 
 // A job past the window, an empty place, a deadline past the window, and a sheet that is too short.

@@ -1,11 +1,12 @@
 -- Each call on a lawful book leaves it lawful.
-use Rattle.std.proofs.Common.{◌≡◌, ℕ, ◌≤◌, Bool, true, false, cond, ◌&&◌, eqb, ltb, leb, List, length, get_or, set, Some, None, Option, sym, refl, ◌∙◌, le_trans, length-set}
-use Rattle.std.proofs.lemmas.Bool.{and_parts, and_from, leb-true, false≢true}
+use Rattle.std.proofs.Common.{◌≡◌, ℕ, ◌≤◌, true, ◌&&◌, eqb, leb, List, length, get_or, set, Some, None, Option, sym, refl, ◌∙◌, le_trans, length-set, arith}
+use Rattle.std.proofs.lemmas.Bool.{leb-true}
+use Rattle.std.proofs.lemmas.Bool.Decides.{nat_tests}
 use Rattle.analysis.specs.declared.pair.Pair.{Pair}
 use Rattle.scenarios.specs.Theorems.{Sound}
 use Rattle.board.specs.Pairs.{lawful}
-use Rattle.board.specs.Model.{Entry, Book, new_book, all_lawful, hyperperiod, jobs, bounded, book_lawful, window}
-use Rattle.board.specs.Jobs.{Rule, due}
+use Rattle.board.specs.Model.{Entry, Book, new_book, entry_lawful, all_lawful, bounded, book_lawful, window}
+use Rattle.board.specs.Jobs.{Rule, due, release_of}
 use Rattle.book.specs.Moves.{enter_refusal, with_places}
 use Rattle.board.specs.Questions.{question_of}
 use Rattle.book.specs.Asks.{within, job_at}
@@ -23,28 +24,15 @@ pub record LawfulBook (b : Book) : Type 0 where
 pub new_lawful : LawfulBook new_book
 new_lawful = record { entries_sound = empty_lawful; opening_lawful = refl; sixteen = refl }
 
--- what an entry that is not refused has passed
-passed : (place period phase deadline table hyper few : Bool)
-    → eqb (cond place (cond period (cond phase (cond deadline (cond table (cond hyper (cond few 0 7) 6) 5) 4) 3) 2) 1) 0 ≡ true
-    → ((period && (phase && (deadline && table))) ≡ true) × ((hyper && few) ≡ true)
-passed true true true true true true true h = (refl, refl)
-passed true true true true true true false h = absurd (false≢true h)
-passed true true true true true false few h = absurd (false≢true h)
-passed true true true true false hyper few h = absurd (false≢true h)
-passed true true true false table hyper few h = absurd (false≢true h)
-passed true true false deadline table hyper few h = absurd (false≢true h)
-passed true false phase deadline table hyper few h = absurd (false≢true h)
-passed false period phase deadline table hyper few h = absurd (false≢true h)
-
 module _ (b : Book) (ok : LawfulBook b) where
   pub entered_lawful : (place : ℕ) (e : Entry) → eqb (enter_refusal b place e) 0 ≡ true → LawfulBook (with_places b (set b.places place (Some e)))
   entered_lawful place e h =
       let qs : List (Option Entry) = set b.places place (Some e) in
-      let p = passed (leb place 15) (leb 1 e.period && leb e.period 4096) (ltb e.phase e.period) (leb 1 e.deadline && leb e.deadline 254) (lawful e.pairs)
-      (leb (hyperperiod qs) 4096) (leb (jobs qs (hyperperiod qs)) 64) h in
-      let old = and_parts (all_lawful b.places) _ ok.entries_sound in
+      let p : (entry_lawful e ≡ true) × (bounded qs ≡ true) = grind (arith, nat_tests) in
+      let put : all_lawful qs ≡ true = lawful_put b.places place e p.0 (limits b.places b.rounds ok.entries_sound).entries_lawful in
+      let old = ok.entries_sound in
       record {
-        entries_sound = and_from (all_lawful qs) _ (lawful_put b.places place e p.0 old.0) (and_from (bounded qs) _ p.1 (and_parts (bounded b.places) _ old.1).1);
+        entries_sound = grind (arith, nat_tests);
         opening_lawful = ok.opening_lawful;
         sixteen = length-set b.places place (Some e) ∙ ok.sixteen;
       }
@@ -61,9 +49,9 @@ module _ (b : Book) (ok : LawfulBook b) where
 
   pub rounded_lawful : (n : ℕ) → (leb 1 n && leb n 8) ≡ true → LawfulBook (record { places = b.places; opening = b.opening; rounds = n })
   rounded_lawful n h =
-      let old = and_parts (all_lawful b.places) _ ok.entries_sound in
+      let old = ok.entries_sound in
       record {
-        entries_sound = and_from (all_lawful b.places) _ old.0 (and_from (bounded b.places) _ (and_parts (bounded b.places) _ old.1).0 h);
+        entries_sound = grind (arith, nat_tests);
         opening_lawful = ok.opening_lawful;
         sixteen = ok.sixteen;
       }
@@ -74,4 +62,4 @@ module _ (b : Book) (ok : LawfulBook b) where
       let entries = (limits b.places b.rounds ok.entries_sound).entries_lawful in
       let soon : due (job_at place e i) ≤ 32768 = le_trans (leb-true (due (job_at place e i)) (window b) inside) (window_high b.places b.rounds ok.entries_sound) in
       sound_question rule b.places b.opening (job_at place e i) entries ok.opening_lawful
-      (stands_in b.places place i e ok.sixteen is soon (ranges_at b.places place e entries (sym is)).deadline_low)
+      (stands_in b.places place i (release_of e i) e ok.sixteen is refl soon (ranges_at b.places place e entries (sym is)).deadline_low)

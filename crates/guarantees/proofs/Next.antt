@@ -1,5 +1,5 @@
 -- What two books keep from call to call.
-use Rattle.std.proofs.Common.{◌≡◌, ℕ, Bool, true, false, cond, ◌&&◌, eqb, leb, List, [], ◌∷◌, ◌++◌, set, replicate, Some, None, Option, sym, refl, ap, subst}
+use Rattle.std.proofs.Common.{◌≡◌, ℕ, Bool, true, false, cond, ◌&&◌, eqb, leb, List, [], ◌∷◌, ◌++◌, set, replicate, Some, None, Option, sym, refl, ap, subst, arith}
 use Rattle.std.proofs.lemmas.List.{map-set}
 use Rattle.std.proofs.lemmas.Bool.{true≢false, false≢true}
 use Rattle.theory.specs.Semiring.{Ops, Laws}
@@ -110,10 +110,7 @@ module _ {K : Type 0} (ops : Ops K) (least : K → K → Type 0) where
         same
 
     taken_together : (x y : Bool) → eqb (cond x 0 5) 0 ≡ eqb (cond y 0 5) 0 → x ≡ y
-    taken_together true true e = refl
-    taken_together true false e = e
-    taken_together false true e = e
-    taken_together false false e = refl
+    taken_together x y e = grind arith
 
     next_opening : (t : Tables) → eqb (cond (lawful t.first) 0 5) 0 ≡ eqb (cond (lawful t.second) 0 5) 0 → Kept (after (edit (opening t)) (books w ts))
     next_opening t both =

@@ -42,6 +42,8 @@ impl Plan {
     }
 }
 
+// Stays: each question says of both sheets what it leaves, since they are the caller's slices (no heap, fixed memory), and no type of ours can hold that.
+// Stays: place, index and the sheets are parameters, since a struct of them would be made at each call only to be taken apart in it.
 impl Plan {
     /// The rounded late weight of job `index` of the task at a place, over 1,048,576. The first 257 cells of both sheets are left nought.
     pub fn rounded<R: Ranking>(
