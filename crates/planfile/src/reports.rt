@@ -43,6 +43,7 @@ fn plan_page(plan: &Plan) -> Page
     page
 }
 
+// Stays: the contract of `write!` says nothing of when it fails, and a report cannot fail.
 /// The page of a fault.
 fn fault_page(fault: Fault) -> Page
     ensures writes { text result ≡ fault_line (told fault) }
@@ -68,6 +69,5 @@ pub fn report(file: &[u8], page: &mut [u8; 512]) -> usize
         Ok(draft) => plan_page(&draft.issue()),
         Err(fault) => fault_page(fault),
     };
-    *page = written.bytes();
-    written.used()
+    written.copy_to(page)
 }
