@@ -37,6 +37,7 @@ fn plan_page(plan: &Plan) -> Page
 {
     let mut page = Page::new();
     page.write(b"place jobs late\n");
+    // Stays: the loop runs over the places themselves, of which the plan is asked, and counts nothing beside.
     for place in 0..16 {
         write_place(&mut page, plan, place);
     }
