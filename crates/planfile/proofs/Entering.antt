@@ -1,7 +1,8 @@
 -- What the book says of a body, and what a file with right contents has.
-use Rattle.std.proofs.Common.{◌≡◌, ℕ, zero, suc, ◌+◌, ◌*◌, ◌<◌, ◌≤◌, true, false, cond, ◌&&◌, eqb, ltb, leb, ◌⊎◌, List, [], ◌∷◌, ◌++◌, length, get_or, take, drop, set, Some, None, Ok, Err, unwrap_or, sym, refl, ap, ◌∙◌, ⊎_elim, arith}
+use Rattle.std.proofs.Common.{◌≡◌, ℕ, zero, suc, ◌+◌, ◌*◌, ◌<◌, ◌≤◌, true, false, cond, ◌&&◌, eqb, ltb, leb, ◌⊎◌, List, [], ◌∷◌, ◌++◌, length, get_or, take, drop, set, Some, None, Ok, Err, Result, unwrap_or, sym, refl, ap, ◌∙◌, ⊎_elim, arith}
 use Rattle.std.proofs.lemmas.List.{at_drop_more, take_more}
-use Rattle.std.proofs.lemmas.Bool.{and_parts, and_from, and_left, and_right, cond-true, cond-false, cond_both, cases_Bool, eq-eqb, ne_eqb, eqb-true, leb-true, le-leb, lt-leb}
+use Rattle.std.proofs.lemmas.Bool.{and_parts, and_from, and_left, and_right, cond-true, cond-false, cond_both, cases_Bool, true_from_ne_false, eq-eqb, ne_eqb, eqb-true, leb-true, le-leb, lt-leb}
+use Rattle.std.proofs.lemmas.Option.{none-some}
 use Rattle.std.proofs.lemmas.Bool.Decides.{nat_tests}
 use Rattle.analysis.specs.declared.pair.Pair.{Pair}
 use Rattle.board.specs.Model as model
@@ -52,9 +53,7 @@ module _ (b : Book) (place period phase deadline : ℕ) where
 
   pub accepted_lawful : (ps : List Pair) → enter_refusal b place (made ps) ≡ 0 → lawful ps ≡ true
   accepted_lawful ps h =
-      ⊎_elim (λ (t : lawful ps ≡ true). t)
-      (λ (t : lawful ps ≡ false). let r = unlawful_refused ps t in let z = no_table_refuses place period phase deadline in absurd (omega arith))
-      (cases_Bool (lawful ps))
+      true_from_ne_false (lawful ps) (λ t. let r = unlawful_refused ps t in let z = no_table_refuses place period phase deadline in omega arith)
 
   pub record Alike (ps qs : List Pair) : Type 0 where
     pub answers : enter_refusal b place (made qs) ≡ enter_refusal b place (made ps)
@@ -105,12 +104,10 @@ module _ (f : List ℕ) (b : Book) (e : Entry) where
   taken_refusal : (next : Book) → body_entered f b e ≡ Ok next → body_refusal f b e ≡ 0
   unfolding body_entered
   taken_refusal next h =
-      ⊎_elim (λ (t : eqb (body_refusal f b e) 0 ≡ true). eqb-true (body_refusal f b e) 0 t)
-      (λ (t : eqb (body_refusal f b e) 0 ≡ false).
+      eqb-true (body_refusal f b e) 0 (true_from_ne_false (eqb (body_refusal f b e) 0) (λ t.
       let k : Err (book_fault (body_refusal f b e) (refusal_offset f e (body_refusal f b e))) ≡ Ok next = sym (cond-false (eqb (body_refusal f b e) 0) _ _ t) ∙ h in
       let y : ◌≡◌ {A = ℕ} 0 1 = cc in
-      absurd (omega arith))
-      (cases_Bool (eqb (body_refusal f b e) 0))
+      omega arith))
 
 accepted_right : (f : List ℕ) (b : Book) (e : Entry) → body_refusal f b e ≡ 0 → wrong_pair f e ≡ None
 unfolding body_refusal
@@ -154,45 +151,28 @@ within_at f (e ∷ es) zero lt h = leb-true _ _ (and_parts _ _ h).0
 within_at f (e ∷ es) (suc i) lt h = within_at f es i (omega arith) (and_parts _ _ h).1
 
 right_placed : (f : List ℕ) (start : ℕ) (before : List Entry) (e : Entry) → entry_number f start before e ≡ 0 → placed f start before e ≡ true
-right_placed f start before e h =
-    ⊎_elim (λ (t : placed f start before e ≡ true). t)
-    (λ (t : placed f start before e ≡ false). let n = number_unplaced f start before e t in absurd (omega arith))
-    (cases_Bool (placed f start before e))
+right_placed f start before e h = true_from_ne_false (placed f start before e) (λ t. let n = number_unplaced f start before e t in omega arith)
 
 right_sized : (f : List ℕ) (start : ℕ) (before : List Entry) (e : Entry) → placed f start before e ≡ true → entry_number f start before e ≡ 0 → sized f e ≡ true
-right_sized f start before e p h =
-    ⊎_elim (λ (t : sized f e ≡ true). t)
-    (λ (t : sized f e ≡ false). let n = number_unsized f start before e p t in absurd (omega arith))
-    (cases_Bool (sized f e))
+right_sized f start before e p h = true_from_ne_false (sized f e) (λ t. let n = number_unsized f start before e p t in omega arith)
 
 entries_within : (f : List ℕ) (at start : ℕ) (before es : List Entry) → entries_fault f at start before es ≡ None → within f es ≡ true
 entries_within f at start before [] h = refl
 entries_within f at start before (e ∷ es) h =
     let n = entry_number f start before e in
-    ⊎_elim
-    (λ (t : eqb n 0 ≡ true).
+    let t : eqb n 0 ≡ true = true_from_ne_false (eqb n 0) (λ u. none-some (file_fault n at) (sym h ∙ cond-false (eqb n 0) _ _ u)) in
     let z : entry_number f start before e ≡ 0 = eqb-true n 0 t in
     let p = right_placed f start before e z in
     let q = right_sized f start before e p z in
     let l : e.start + 6 + 3 * pair_count f e ≤ length f = grind (arith, nat_tests) in
-    and_from _ _ (le-leb _ _ l) (entries_within f (at + 5) (body_end e) (before ++ e ∷ []) es (sym (cond-true (eqb n 0) _ _ t) ∙ h)))
-    (λ (t : eqb n 0 ≡ false).
-    let k : Some (file_fault n at) ≡ None = sym (cond-false (eqb n 0) _ _ t) ∙ h in
-    let y : ◌≡◌ {A = ℕ} 0 1 = cc in
-    absurd (omega arith))
-    (cases_Bool (eqb n 0))
+    and_from _ _ (le-leb _ _ l) (entries_within f (at + 5) (body_end e) (before ++ e ∷ []) es (sym (cond-true (eqb n 0) _ _ t) ∙ h))
 
 -- where the contents are right, each body lies in the file
 pub contents_within : (f : List ℕ) → contents_fault f ≡ None → within f (contents f) ≡ true
 unfolding contents_fault
 contents_within f h =
-    ⊎_elim
-    (λ (t : contents_fit f ≡ true). entries_within f 1 (contents_end f) [] (contents f) (sym (cond-true (contents_fit f) _ _ t) ∙ h))
-    (λ (t : contents_fit f ≡ false).
-    let k : Some (file_fault 20 0) ≡ None = sym (cond-false (contents_fit f) _ _ t) ∙ h in
-    let y : ◌≡◌ {A = ℕ} 0 1 = cc in
-    absurd (omega arith))
-    (cases_Bool (contents_fit f))
+    let t : contents_fit f ≡ true = true_from_ne_false (contents_fit f) (λ u. none-some (file_fault 20 0) (sym h ∙ cond-false (contents_fit f) _ _ u)) in
+    entries_within f 1 (contents_end f) [] (contents f) (sym (cond-true (contents_fit f) _ _ t) ∙ h)
 
 -- a refusal has a number, and 5 is a refused table alone
 pub numbered : (r : Refusal) → (1 ≤ number r) × (number r ≡ 5 → r ≡ Table)
@@ -228,6 +208,10 @@ module _ (f : List ℕ) (e : Entry) where
   offset_pair r is n k low high =
       let t : (leb 1 (pair_count f e) && leb (pair_count f e) 16) ≡ true = and_from _ _ (le-leb 1 (pair_count f e) (omega arith)) (le-leb (pair_count f e) 16 (omega arith)) in
       ap (λ x. cond (eqb (number x) 5) (table_offset f e) e.start) is ∙ cond-true (leb 1 (pair_count f e) && leb (pair_count f e) 16) _ _ t
+
+-- what entering all bodies into a new draft comes to
+pub contents_entered : (f : List ℕ) (r : Result Book Told) (b : Book) (es xs : List Entry) → r ≡ bodies_entered f b xs → xs ≡ es → es ≡ contents f → b ≡ new_book → r ≡ bodies_entered f new_book (contents f)
+contents_entered f r b es xs h p q n = h ∙ (ap (bodies_entered f b) (p ∙ q) ∙ ap (λ x. bodies_entered f x (contents f)) n)
 
 -- what loading gives, step by step
 pub loaded_contents : (f : List ℕ) (t : Told) → contents_fault f ≡ Some t → loaded f ≡ Err t

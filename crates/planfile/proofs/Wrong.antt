@@ -1,14 +1,16 @@
 -- One step over the pairs of a body, and over the bodies.
 use Rattle.std.proofs.Common.{◌≡◌, ℕ, ◌+◌, ◌*◌, ◌<◌, ◌≤◌, true, false, cond, ◌&&◌, leb, ◌⊎◌, List, [], ◌∷◌, ◌++◌, length, get_or, take, drop, Some, None, Option, sym, refl, ap, ◌∙◌, ⊎_elim, arith}
+use Rattle.std.specs.Option.{option_or}
 use Rattle.std.proofs.lemmas.List.FromFn.{length-map-range_with_len, get_or-map-range_with_len}
 use Rattle.std.proofs.lemmas.List.{at_drop_more, take_more}
+use Rattle.std.proofs.lemmas.Option.{none-some}
 use Rattle.std.proofs.lemmas.Bool.{and_parts, and_from, and_left, and_right, cond-true, cond-false, leb-true, le-leb, lt-leb}
 use Rattle.analysis.specs.declared.pair.Pair.{Pair}
 use Rattle.board.specs.Pairs.{rising, weighted}
 use Rattle.planfile.specs.declared.contents.Entry.{Entry}
 use Rattle.planfile.specs.Fields.{pair}
 use Rattle.planfile.specs.Contents.{pair_count}
-use Rattle.planfile.specs.Bodies.{pairs, first_wrong, wrong_pair, wrong_in, within, or_else}
+use Rattle.planfile.specs.Bodies.{pairs, first_wrong, wrong_pair, wrong_in, within}
 
 pub length_pairs : (f : List ℕ) (at n : ℕ) → length (pairs f at n) ≡ n
 unfolding pairs
@@ -61,14 +63,14 @@ module _ (f : List ℕ) (at n i : ℕ) (lt : i < n) where
       pair_next low (at + 3 * i) p is ∙ cond-false (leb low p.time && leb 1 p.weight) _ _ bad
 
 module _ (f : List ℕ) (es : List Entry) (i : ℕ) (d : Entry) (lt : i < length es) where
-  body_next : wrong_in f (drop i es) ≡ or_else (wrong_pair f (get_or es i d)) (wrong_in f (drop (i + 1) es))
+  body_next : wrong_in f (drop i es) ≡ option_or (wrong_pair f (get_or es i d)) (wrong_in f (drop (i + 1) es))
   body_next = at_drop_more (wrong_in f) es i d lt
 
   pub body_goes : wrong_pair f (get_or es i d) ≡ None → wrong_in f (drop (i + 1) es) ≡ wrong_in f (drop i es)
-  body_goes h = ap (λ o. or_else o (wrong_in f (drop (i + 1) es))) (sym h) ∙ sym body_next
+  body_goes h = ap (λ o. option_or o (wrong_in f (drop (i + 1) es))) (sym h) ∙ sym body_next
 
   pub body_stops : (x : ℕ) → wrong_pair f (get_or es i d) ≡ Some x → wrong_in f (drop i es) ≡ Some x
-  body_stops x h = body_next ∙ ap (λ o. or_else o (wrong_in f (drop (i + 1) es))) h
+  body_stops x h = body_next ∙ ap (λ o. option_or o (wrong_in f (drop (i + 1) es))) h
 
   pub within_next : within f (drop i es) ≡ true → ((get_or es i d).start + 6 + 3 * pair_count f (get_or es i d) ≤ length f) × (within f (drop (i + 1) es) ≡ true)
   within_next h =
@@ -84,17 +86,17 @@ lawful_right (p ∷ ps) low at r w =
     let b = and_parts (leb 1 p.weight) (weighted ps) w in
     cond-true (leb low p.time && leb 1 p.weight) _ _ (and_from _ _ t.0 b.0) ∙ lawful_right ps (p.time + 1) (at + 3) a.1 b.1
 
-or_none : (o : Option ℕ) → or_else o None ≡ o
+or_none : (o : Option ℕ) → option_or o None ≡ o
 or_none None = refl
 or_none (Some x) = refl
 
-or_both : (o y : Option ℕ) → or_else o y ≡ None → (o ≡ None) × (y ≡ None)
+or_both : (o y : Option ℕ) → option_or o y ≡ None → (o ≡ None) × (y ≡ None)
 or_both None y h = (refl, h)
-or_both (Some x) y h = let q : ◌≡◌ {A = ℕ} 0 1 = cc in absurd (omega arith)
+or_both (Some x) y h = absurd (none-some x (sym h))
 
 -- one more body
 pub wrong_push : (f : List ℕ) (es : List Entry) (e : Entry) → wrong_in f es ≡ None → wrong_in f (es ++ e ∷ []) ≡ wrong_pair f e
 wrong_push f [] e h = or_none (wrong_pair f e)
 wrong_push f (x ∷ es) e h =
     let b = or_both (wrong_pair f x) (wrong_in f es) h in
-    ap (λ o. or_else o (wrong_in f (es ++ e ∷ []))) b.0 ∙ wrong_push f es e b.1
+    ap (λ o. option_or o (wrong_in f (es ++ e ∷ []))) b.0 ∙ wrong_push f es e b.1

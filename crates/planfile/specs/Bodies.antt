@@ -1,7 +1,7 @@
 -- The bodies of a plan file: the task of each, and where its refusal is told.
 use Rattle.std.specs.Prelude.{ℕ, ◌+◌, ◌*◌, Bool, true, cond, ◌&&◌, List, [], ◌∷◌, map, length, Some, None, Ok, Err, Option, Result, ◌==◌, nat_le}
 use Rattle.std.specs.List.{range_with_len}
-use Rattle.std.specs.Option.{unwrap_or}
+use Rattle.std.specs.Option.{option_or, unwrap_or}
 use Rattle.analysis.specs.declared.pair.Pair.{Pair}
 use Rattle.board.specs.Model as model
 use Rattle.board.specs.Model.{Book}
@@ -59,15 +59,10 @@ abbrev pub bodies_entered : List ℕ → Book → List Entry → Result Book Tol
 bodies_entered f b [] = Ok b
 bodies_entered f b (e ∷ es) = and_then (body_entered f b e) (λ next. bodies_entered f next es)
 
--- the first of two
-abbrev pub or_else : {X : Type 0} → Option X → Option X → Option X
-or_else None y = y
-or_else (Some x) y = Some x
-
 -- the first wrong pair of several bodies
 abbrev pub wrong_in : List ℕ → List Entry → Option ℕ
 wrong_in f [] = None
-wrong_in f (e ∷ es) = or_else (wrong_pair f e) (wrong_in f es)
+wrong_in f (e ∷ es) = option_or (wrong_pair f e) (wrong_in f es)
 
 -- each body lies in the file, with its pairs
 abbrev pub within : List ℕ → List Entry → Bool

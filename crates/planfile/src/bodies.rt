@@ -23,7 +23,7 @@ fn read_pairs(fields: &Fields, at: usize, count: usize) -> Result<ShortList<Pair
     ensures { MatchResult result (λ ps. ps.items ≡ pairs fields.now.file.now at count) (λ e. (length fields.now.file.now < at + 3 * count) × (e ≡ fields.now.missing)) }
 {
     let mut held = ShortList::new(Pair { time: 0, weight: 0 });
-    // Stays: the number of a pair gives its offset, so a range is no longer than an iterator and its count.
+    // Stays: pair `i` is read at its offset by the reader that answers the fault; chunks of the file would go past that reader.
     for i in 0..count {
         let pair = fields.pair(at + 3 * i)?;
         let Ok(()) = held.push(pair) else {
@@ -75,7 +75,7 @@ impl Bodies<'_> {
             let first = entry.start as usize + 6;
             let named = self.fields.byte(entry.start as usize + 5)? as usize;
             let mut low: u16 = 0;
-            // Stays: the number of a pair gives its offset, so a range is no longer than an iterator and its count.
+            // Stays: pair `i` is read at its offset by the reader that answers the fault; chunks of the file would go past that reader.
             for i in 0..named {
                 let pair = self.fields.pair(first + 3 * i)?;
                 if (pair.time as u16) < low || pair.weight == 0 {

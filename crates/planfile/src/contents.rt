@@ -104,7 +104,7 @@ impl Contents {
             size: 0,
         });
         let mut end = 1 + 5 * count;
-        // Stays: the number of an entry gives its offset, so a range is no longer than an iterator and its count.
+        // Stays: entry `i` is read at its offset by the reader that answers the fault; chunks of the file would go past that reader.
         for i in 0..count {
             let entry = Entry::checked(file, 1 + 5 * i, end, entries.as_slice())?;
             let Ok(()) = entries.push(entry) else {

@@ -47,12 +47,10 @@ impl Fault {
     pub(crate) fn at(self, offset: usize) -> Fault
         ensures { result ≡ record { cause = self.cause; offset = offset } }
     {
-        Fault {
-            cause: self.cause,
-            offset,
-        }
+        Fault { offset, ..self }
     }
 
+    // Stays: docs/PLANFILE.md fixes the numbers of the layers and of the faults, and the report prints them.
     /// The layer: 1 for the file, 2 for the book.
     pub fn layer(&self) -> u8
         ensures { result ≡ (told self.now).layer }

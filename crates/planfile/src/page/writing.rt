@@ -3,6 +3,8 @@ ghost use Rattle.std.specs.Prelude.{◌≡◌, ◌+◌, ◌<◌, ◌≤◌, [], 
 ghost use Rattle.planfile.specs.Pages.{text, padded};
 
 use crate::page::Page;
+use arrayvec::ArrayVec;
+use itoa::Buffer;
 
 impl Page {
     /// An empty page.
@@ -10,8 +12,7 @@ impl Page {
         ensures { text result ≡ [] }
     {
         Page {
-            bytes: [0; 512],
-            used: 0,
+            bytes: ArrayVec::new(),
         }
     }
 
@@ -20,8 +21,7 @@ impl Page {
         requires { length (text self.old) < 512 }
         ensures { text self.new ≡ text self.old ++ byte ∷ [] }
     {
-        self.bytes[self.used] = byte;
-        self.used += 1;
+        self.bytes.push(byte);
     }
 
     /// Writes several bytes.
@@ -29,9 +29,9 @@ impl Page {
         requires { length (text self.old) + length bytes.now ≤ 512 }
         ensures { text self.new ≡ text self.old ++ bytes.now }
     {
-        for byte in bytes {
-            self.push(*byte);
-        }
+        let Ok(()) = self.bytes.try_extend_from_slice(bytes) else {
+            unreachable!()
+        };
     }
 
     /// Writes a number in decimal, without leading noughts.
@@ -39,23 +39,18 @@ impl Page {
         requires { length (text self.old) + length (decimal n) ≤ 512 }
         ensures { text self.new ≡ text self.old ++ decimal n }
     {
-        if n >= 10 {
-            self.number(n / 10);
-        }
-        self.push(b'0' + (n % 10) as u8);
+        let mut digits = Buffer::new();
+        self.write(digits.format(n).as_bytes());
     }
 
-    /// How many bytes are written.
-    pub(crate) fn used(&self) -> usize
-        ensures { result ≡ length (text self.now) }
+    /// Copies the text to a page whose other bytes are nought, and answers how many bytes it has.
+    pub(crate) fn copy_to(&self, page: &mut [u8; 512]) -> usize
+        ensures writes { page.new ≡ padded (text self.now) }
+        ensures answers { result ≡ length (text self.now) }
     {
-        self.used
-    }
-
-    /// The bytes of the page.
-    pub(crate) fn bytes(&self) -> [u8; 512]
-        ensures { result ≡ padded (text self.now) }
-    {
-        self.bytes
+        let bytes = self.bytes.as_slice();
+        *page = [0; 512];
+        page[..bytes.len()].copy_from_slice(bytes);
+        bytes.len()
     }
 }

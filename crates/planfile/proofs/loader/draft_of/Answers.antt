@@ -1,10 +1,8 @@
 use Rattle.std.proofs.Common.{◌<◌, ◌≤◌, length, Err, sym, ap, ◌∙◌, subst}
 use Rattle.std.proofs.lemmas.Result.{err_from_is_err_and}
-use Rattle.book.specs.Drafts.{draft_book}
 use Rattle.planfile.specs.Faults.{told, file_fault}
-use Rattle.planfile.specs.Contents.{contents}
-use Rattle.planfile.specs.Bodies.{within, bodies_entered}
-use Rattle.planfile.proofs.Entering.{contents_within, loaded_contents, loaded_bodies, loaded_trailing, loaded_whole}
+use Rattle.planfile.specs.Bodies.{within}
+use Rattle.planfile.proofs.Entering.{contents_within, contents_entered, loaded_contents, loaded_bodies, loaded_trailing, loaded_whole}
 use Rattle.planfile.proofs.loader.draft_of.Goals as goal
 
 pub returns-in_err-contents : goal.returns-in_err-contents
@@ -24,7 +22,7 @@ returns-in_err-enter c =
     let f = c.args.file.now in
     let k = c.in_ok-contents.ensures in
     let p = err_from_is_err_and c.from_residual-in_err-enter.result c.from_residual-in_err-enter.ensures.1 in
-    let b = c.in_err-enter.ensures ∙ (ap (bodies_entered f (draft_book c.new-draft.result)) (c.as_slice.ensures.is ∙ k.1) ∙ ap (λ x. bodies_entered f x (contents f)) c.new-draft.ensures) in
+    let b = contents_entered f _ _ _ _ c.in_err-enter.ensures c.as_slice.ensures.is k.1 c.new-draft.ensures in
     let l = loaded_bodies f _ k.0 b in
     rw (p.1, p.2) l
 
@@ -32,7 +30,7 @@ pub returns-then-contents-file : goal.returns-then-contents-file
 returns-then-contents-file c =
     let f = c.args.file.now in
     let k = c.in_ok-contents.ensures in
-    let b = c.in_ok-enter.ensures ∙ (ap (bodies_entered f (draft_book c.new-draft.result)) (c.as_slice.ensures.is ∙ k.1) ∙ ap (λ x. bodies_entered f x (contents f)) c.new-draft.ensures) in
+    let b = contents_entered f _ _ _ _ c.in_ok-enter.ensures c.as_slice.ensures.is k.1 c.new-draft.ensures in
     let l = loaded_trailing f _ k.0 b (subst (λ x. x < length f) k.2 c.if-contents-file.true) in
     l ∙ (ap (λ x. Err (file_fault 23 x)) (sym k.2) ∙ ap (λ e. Err (told e)) (sym c.file.ensures))
 
@@ -40,5 +38,5 @@ pub returns : goal.returns
 returns c =
     let f = c.args.file.now in
     let k = c.in_ok-contents.ensures in
-    let b = c.in_ok-enter.ensures ∙ (ap (bodies_entered f (draft_book c.new-draft.result)) (c.as_slice.ensures.is ∙ k.1) ∙ ap (λ x. bodies_entered f x (contents f)) c.new-draft.ensures) in
+    let b = contents_entered f _ _ _ _ c.in_ok-enter.ensures c.as_slice.ensures.is k.1 c.new-draft.ensures in
     loaded_whole f _ k.0 b (subst (λ x. length f ≤ x) k.2 c.if-contents-file.false)
