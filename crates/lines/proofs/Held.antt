@@ -55,7 +55,7 @@ pub listed_kept : (ps : List Pair) → listed (kept ps) ≡ take 17 ps
 unfolding kept
 listed_kept ps = refl
 
-both : (ps : List Pair) (p : Pair) (o : Option (List Pair)) → option_map (λ qs. ps ++ qs) (option_map (λ qs. p ∷ qs) o) ≡ option_map (λ qs. (ps ++ p ∷ []) ++ qs) o
+pub both : {X : Type 0} (ps : List X) (p : X) (o : Option (List X)) → option_map (λ qs. ps ++ qs) (option_map (λ qs. p ∷ qs) o) ≡ option_map (λ qs. (ps ++ p ∷ []) ++ qs) o
 both ps p None = refl
 both ps p (Some qs) = ap Some (sym (append_assoc ps (p ∷ []) qs))
 
