@@ -33,7 +33,8 @@ impl FromField for u32 {
     ghost reads = { long };
 
     fn from_field(field: &[u8]) -> Option<u32> {
-        u32::try_from(u64::from_field(field)?).ok()
+        let number = u64::from_field(field)?;
+        u32::try_from(number).ok()
     }
 }
 
@@ -41,7 +42,8 @@ impl FromField for u16 {
     ghost reads = { word };
 
     fn from_field(field: &[u8]) -> Option<u16> {
-        u16::try_from(u64::from_field(field)?).ok()
+        let number = u64::from_field(field)?;
+        u16::try_from(number).ok()
     }
 }
 
@@ -49,6 +51,7 @@ impl FromField for u8 {
     ghost reads = { byte };
 
     fn from_field(field: &[u8]) -> Option<u8> {
-        u8::try_from(u64::from_field(field)?).ok()
+        let number = u64::from_field(field)?;
+        u8::try_from(number).ok()
     }
 }

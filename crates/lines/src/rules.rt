@@ -4,7 +4,7 @@ ghost use Rattle.lines.specs.Rules.{kind as kind_of, rule as rule_of, table as t
 
 use crate::fields::FromField;
 use crate::words::cut;
-use analysis::TableRule;
+use analysis::{ShortList, TableRule};
 
 /// Which weights a response is asked in.
 #[derive(Clone, Copy)]
@@ -45,14 +45,12 @@ impl FromField for Kind {
 fn read_ranks(list: &[u8]) -> Option<TableRule>
     ensures { MatchOption result (ranks_of 15 list.now ≡ None) (λ t. ranks_of 15 list.now ≡ Some t.ranks) }
 {
-    let mut ranks = [0; 16];
-    let mut rest = list;
-    for i in 0..15 {
-        let (rank, after) = cut(rest, b',')?;
-        ranks[i] = u64::from_field(rank)?;
-        rest = after;
+    let mut ranks = ShortList::<u64, 16>::new(0);
+    for piece in list.split(|b| *b == b',') {
+        let rank = u64::from_field(piece)?;
+        ranks.push(rank).ok()?;
     }
-    ranks[15] = u64::from_field(rest)?;
+    let ranks = <[u64; 16]>::try_from(ranks.as_slice()).ok()?;
     Some(TableRule { ranks })
 }
 

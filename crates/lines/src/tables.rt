@@ -6,41 +6,36 @@ ghost use Rattle.lines.specs.Tables.{pair as pair_of, pairs as pairs_of, listed,
 
 use crate::fields::{Fields, FromField};
 use crate::words::cut;
-use analysis::Pair;
+use analysis::{Pair, ShortList};
 
-/// The first seventeen pairs of a list; the cells after them hold a pair of noughts.
+/// The first seventeen pairs of a list; the places after them hold a pair of noughts.
 #[derive(Clone, Copy)]
 pub struct PairList {
-    held: [Pair; 17],
-    len: u8,
+    held: ShortList<Pair, 17>,
 }
 
 impl PairList {
     /// An empty list.
-    fn new() -> PairList
+    pub fn new() -> PairList
         ensures { result ≡ kept [] }
     {
         PairList {
-            held: [Pair { time: 0, weight: 0 }; 17],
-            len: 0,
+            held: ShortList::new(Pair { time: 0, weight: 0 }),
         }
     }
 
     /// Adds a pair, unless seventeen are held.
-    fn push(&mut self, pair: Pair)
+    pub fn push(&mut self, pair: Pair)
         ensures { self.new ≡ with_pair self.old pair }
     {
-        if self.len < 17 {
-            self.held[self.len as usize] = pair;
-            self.len += 1;
-        }
+        let _ = self.held.push(pair);
     }
 
     /// The pairs that are held.
     pub fn pairs(&self) -> &[Pair]
         ensures { result.now ≡ listed self.now }
     {
-        &self.held[0..self.len.min(17) as usize]
+        self.held.as_slice()
     }
 }
 
