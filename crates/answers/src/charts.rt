@@ -12,11 +12,12 @@ use texts::{Printable, write_text};
 fn largest<W: Printable>(sheet: &[W]) -> u64
     ensures { result ≡ largest_size W.size (cells W.ops sheet.now) 257 }
 {
-    let mut most = 0;
-    for place in 0..257 {
-        most = most.max(cell_at(sheet, place).size());
-    }
-    most
+    sheet
+        .iter()
+        .take(257)
+        .map(|cell| cell.size())
+        .max()
+        .unwrap_or(0)
 }
 
 /// Writes the line of a time, where its cell is not nought.

@@ -11,11 +11,7 @@ use theory::Weight;
 pub(crate) fn cell_at<W: Weight>(sheet: &[W], place: usize) -> W
     ensures { result ≡ cells W.ops sheet.now place }
 {
-    if place < sheet.len() {
-        sheet[place]
-    } else {
-        W::nought()
-    }
+    sheet.get(place).copied().unwrap_or(W::nought())
 }
 
 /// The cell of a sheet that holds what is late.
