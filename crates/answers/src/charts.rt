@@ -4,7 +4,7 @@ ghost use Rattle.analysis.specs.Cells.{cells};
 ghost use Rattle.answers.specs.Charts.{largest as largest_size, time_bar, time_bars, chart_text};
 
 use crate::bars::{write_bar, write_padded};
-use crate::responses::{cell_at, late_cell};
+use crate::responses::late_cell;
 use std::alloc::AllocError;
 use texts::{Printable, write_text};
 
@@ -46,8 +46,8 @@ fn write_time_bars<W: Printable>(
 ) -> Result<(), AllocError>
     ensures { OnOk result (out.new.items ≡ out.old.items ++ time_bars W.size most (cells W.ops sheet.now)) }
 {
-    for time in 0..256 {
-        write_time_bar(time, cell_at(sheet, time), most, out)?;
+    for (time, cell) in sheet.iter().take(256).enumerate() {
+        write_time_bar(time, *cell, most, out)?;
     }
     Ok(())
 }

@@ -7,18 +7,11 @@ use std::alloc::AllocError;
 use texts::{Printable, write_number, write_text};
 use theory::Weight;
 
-/// The cell of a sheet at a place, which is nought past the sheet's end.
-pub(crate) fn cell_at<W: Weight>(sheet: &[W], place: usize) -> W
-    ensures { result ≡ cells W.ops sheet.now place }
-{
-    sheet.get(place).copied().unwrap_or(W::nought())
-}
-
-/// The cell of a sheet that holds what is late.
+/// The cell of a sheet that holds what is late; nought where the sheet is too short for it.
 pub(crate) fn late_cell<W: Weight>(sheet: &[W]) -> W
     ensures { result ≡ cells W.ops sheet.now 256 }
 {
-    cell_at(sheet, 256)
+    sheet.get(256).copied().unwrap_or(W::nought())
 }
 
 /// Writes a time and the weight of its cell, where that is not nought.
@@ -49,8 +42,8 @@ fn write_late<W: Printable>(cell: W, out: &mut Vec<u8>) -> Result<(), AllocError
 fn write_times<W: Printable>(sheet: &[W], out: &mut Vec<u8>) -> Result<(), AllocError>
     ensures { OnOk result (out.new.items ≡ out.old.items ++ times_text W.size W.text (cells W.ops sheet.now)) }
 {
-    for time in 0..256 {
-        write_time(time, cell_at(sheet, time), out)?;
+    for (time, cell) in sheet.iter().take(256).enumerate() {
+        write_time(time, *cell, out)?;
     }
     Ok(())
 }
