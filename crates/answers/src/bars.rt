@@ -39,6 +39,5 @@ pub(crate) fn write_bar(size: u64, most: u64, out: &mut Vec<u8>) -> Result<(), A
 {
     write_text(b" |", out)?;
     write_repeated(b'#', bar_length(size, most), out)?;
-    write_text(b"\n", out)?;
-    Ok(())
+    write_text(b"\n", out)
 }

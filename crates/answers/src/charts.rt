@@ -34,8 +34,7 @@ fn write_time_bar<W: Printable>(
         return Ok(());
     }
     write_padded(time, out)?;
-    write_bar(size, most, out)?;
-    Ok(())
+    write_bar(size, most, out)
 }
 
 /// Writes the lines of the times of a sheet.
@@ -60,6 +59,5 @@ pub fn write_chart<W: Printable>(sheet: &[W], out: &mut Vec<u8>) -> Result<(), A
     let most = largest(sheet);
     write_time_bars(sheet, most, out)?;
     write_text(b"late", out)?;
-    write_bar(late_cell(sheet).size(), most, out)?;
-    Ok(())
+    write_bar(late_cell(sheet).size(), most, out)
 }

@@ -24,8 +24,7 @@ fn write_time<W: Printable>(time: usize, cell: W, out: &mut Vec<u8>) -> Result<(
     write_number(time as u64, out)?;
     write_text(b":", out)?;
     cell.write(out)?;
-    write_text(b" ", out)?;
-    Ok(())
+    write_text(b" ", out)
 }
 
 /// Writes the weight of the late cell, and ends the line.
@@ -34,8 +33,7 @@ fn write_late<W: Printable>(cell: W, out: &mut Vec<u8>) -> Result<(), AllocError
 {
     write_text(b"late ", out)?;
     cell.write(out)?;
-    write_text(b"\n", out)?;
-    Ok(())
+    write_text(b"\n", out)
 }
 
 /// Writes the times of a sheet whose cell is not nought, rising, with their weights.
@@ -54,6 +52,5 @@ pub fn write_response<W: Printable>(sheet: &[W], out: &mut Vec<u8>) -> Result<()
     ensures { OnOk result (out.new.items ≡ out.old.items ++ response_text W.size W.text (cells W.ops sheet.now)) }
 {
     write_times(sheet, out)?;
-    write_late(late_cell(sheet), out)?;
-    Ok(())
+    write_late(late_cell(sheet), out)
 }
