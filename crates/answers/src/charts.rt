@@ -4,7 +4,7 @@ ghost use Rattle.analysis.specs.Cells.{cells};
 ghost use Rattle.answers.specs.Charts.{largest as largest_size, time_bar, time_bars, chart_text};
 
 use crate::bars::{write_bar, write_padded};
-use crate::responses::{cell_at, late_cell};
+use crate::responses::late_cell;
 use std::alloc::AllocError;
 use texts::{Printable, write_text};
 
@@ -12,11 +12,12 @@ use texts::{Printable, write_text};
 fn largest<W: Printable>(sheet: &[W]) -> u64
     ensures { result ≡ largest_size W.size (cells W.ops sheet.now) 257 }
 {
-    let mut most = 0;
-    for place in 0..257 {
-        most = most.max(cell_at(sheet, place).size());
-    }
-    most
+    sheet
+        .iter()
+        .take(257)
+        .map(|cell| cell.size())
+        .max()
+        .unwrap_or(0)
 }
 
 /// Writes the line of a time, where its cell is not nought.
@@ -33,8 +34,7 @@ fn write_time_bar<W: Printable>(
         return Ok(());
     }
     write_padded(time, out)?;
-    write_bar(size, most, out)?;
-    Ok(())
+    write_bar(size, most, out)
 }
 
 /// Writes the lines of the times of a sheet.
@@ -45,8 +45,8 @@ fn write_time_bars<W: Printable>(
 ) -> Result<(), AllocError>
     ensures { OnOk result (out.new.items ≡ out.old.items ++ time_bars W.size most (cells W.ops sheet.now)) }
 {
-    for time in 0..256 {
-        write_time_bar(time, cell_at(sheet, time), most, out)?;
+    for (time, cell) in sheet.iter().take(256).enumerate() {
+        write_time_bar(time, *cell, most, out)?;
     }
     Ok(())
 }
@@ -59,6 +59,5 @@ pub fn write_chart<W: Printable>(sheet: &[W], out: &mut Vec<u8>) -> Result<(), A
     let most = largest(sheet);
     write_time_bars(sheet, most, out)?;
     write_text(b"late", out)?;
-    write_bar(late_cell(sheet).size(), most, out)?;
-    Ok(())
+    write_bar(late_cell(sheet).size(), most, out)
 }

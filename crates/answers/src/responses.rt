@@ -7,22 +7,11 @@ use std::alloc::AllocError;
 use texts::{Printable, write_number, write_text};
 use theory::Weight;
 
-/// The cell of a sheet at a place, which is nought past the sheet's end.
-pub(crate) fn cell_at<W: Weight>(sheet: &[W], place: usize) -> W
-    ensures { result ≡ cells W.ops sheet.now place }
-{
-    if place < sheet.len() {
-        sheet[place]
-    } else {
-        W::nought()
-    }
-}
-
-/// The cell of a sheet that holds what is late.
+/// The cell of a sheet that holds what is late; nought where the sheet is too short for it.
 pub(crate) fn late_cell<W: Weight>(sheet: &[W]) -> W
     ensures { result ≡ cells W.ops sheet.now 256 }
 {
-    cell_at(sheet, 256)
+    sheet.get(256).copied().unwrap_or(W::nought())
 }
 
 /// Writes a time and the weight of its cell, where that is not nought.
@@ -35,8 +24,7 @@ fn write_time<W: Printable>(time: usize, cell: W, out: &mut Vec<u8>) -> Result<(
     write_number(time as u64, out)?;
     write_text(b":", out)?;
     cell.write(out)?;
-    write_text(b" ", out)?;
-    Ok(())
+    write_text(b" ", out)
 }
 
 /// Writes the weight of the late cell, and ends the line.
@@ -45,16 +33,15 @@ fn write_late<W: Printable>(cell: W, out: &mut Vec<u8>) -> Result<(), AllocError
 {
     write_text(b"late ", out)?;
     cell.write(out)?;
-    write_text(b"\n", out)?;
-    Ok(())
+    write_text(b"\n", out)
 }
 
 /// Writes the times of a sheet whose cell is not nought, rising, with their weights.
 fn write_times<W: Printable>(sheet: &[W], out: &mut Vec<u8>) -> Result<(), AllocError>
     ensures { OnOk result (out.new.items ≡ out.old.items ++ times_text W.size W.text (cells W.ops sheet.now)) }
 {
-    for time in 0..256 {
-        write_time(time, cell_at(sheet, time), out)?;
+    for (time, cell) in sheet.iter().take(256).enumerate() {
+        write_time(time, *cell, out)?;
     }
     Ok(())
 }
@@ -65,6 +52,5 @@ pub fn write_response<W: Printable>(sheet: &[W], out: &mut Vec<u8>) -> Result<()
     ensures { OnOk result (out.new.items ≡ out.old.items ++ response_text W.size W.text (cells W.ops sheet.now)) }
 {
     write_times(sheet, out)?;
-    write_late(late_cell(sheet), out)?;
-    Ok(())
+    write_late(late_cell(sheet), out)
 }

@@ -14,8 +14,7 @@ fn write_pair(pair: &Pair, out: &mut Vec<u8>) -> Result<(), AllocError>
     ensures { OnOk result (out.new.items ≡ out.old.items ++ pair_text pair.now) }
 {
     write_field(b" ", pair.time as u64, out)?;
-    write_field(b":", pair.weight as u64, out)?;
-    Ok(())
+    write_field(b":", pair.weight as u64, out)
 }
 
 /// Writes the pairs of a table.
@@ -34,8 +33,7 @@ pub(crate) fn write_table(label: &[u8], pairs: &[Pair], out: &mut Vec<u8>) -> Re
 {
     write_text(label, out)?;
     write_pairs(pairs, out)?;
-    write_text(b"\n", out)?;
-    Ok(())
+    write_text(b"\n", out)
 }
 
 /// Writes the line of the task at a place.
@@ -46,8 +44,7 @@ fn write_entry(place: u8, task: &Task, out: &mut Vec<u8>) -> Result<(), AllocErr
     write_field(b" period ", task.period as u64, out)?;
     write_field(b" phase ", task.phase as u64, out)?;
     write_field(b" deadline ", task.deadline as u64, out)?;
-    write_table(b" table", task.table.pairs(), out)?;
-    Ok(())
+    write_table(b" table", task.table.pairs(), out)
 }
 
 /// Writes the line of a place, where there is a task at it.

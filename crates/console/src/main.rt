@@ -11,18 +11,16 @@ use std::io::{Read, Write};
 /// How many bytes of standard input are read at a time.
 const CHUNK: usize = 4096;
 
-/// Whether charts are wanted.
+/// Whether charts are wanted: no argument is other than `--chart`, and there is one.
 fn wants_chart(rt: &HostRuntime) -> anyhow::Result<bool> {
-    let mut chart = false;
-    for word in env::args(rt)?.skip(1) {
-        if word.as_str() != "--chart" {
-            rt.stderr()
-                .write_all(b"usage: console [--chart] < SCRIPT\n")?;
-            return Err(anyhow!("an argument that is not --chart"));
-        }
-        chart = true;
+    if env::args(rt)?
+        .skip(1)
+        .any(|word| word.as_str() != "--chart")
+    {
+        eprintln!(rt; "usage: console [--chart] < SCRIPT")?;
+        return Err(anyhow!("an argument that is not --chart"));
     }
-    Ok(chart)
+    Ok(env::args(rt)?.nth(1).is_some())
 }
 
 /// Answers the lines of standard input.
@@ -33,6 +31,7 @@ fn run(rt: &HostRuntime, chart: bool) -> anyhow::Result<()> {
     let mut book = ScriptBook::new();
     let mut reading = Reading::new(chart);
     let mut out = Vec::new(rt.alloc());
+    // Stays: `lines` would refuse bytes that are no text and hold a line of any length; for chunks of bytes std has no iterator.
     for _ in 0..u64::MAX {
         let n = input.read(&mut chunk)?;
         if n == 0 {

@@ -1,7 +1,11 @@
-use Rattle.std.proofs.Common.{vec_items, ap}
+use Rattle.std.proofs.Common.{◌≡◌, ℕ, [], ◌++◌, length, vec_items, ap, ◌∙◌}
+use Rattle.std.proofs.lemmas.Iterator.{YieldsList-from_slice, YieldsList-from_take}
+use Rattle.std.proofs.lemmas.Iterator.Consumers.{YieldsList-at, YieldsList-from_enumerate, YieldsList-turn, YieldsList-end}
 use Rattle.analysis.specs.Cells.{cells}
-use Rattle.answers.specs.Charts.{time_bar}
-use Rattle.texts.proofs.Joined.{start_in_turn, more_in_turn}
+use Rattle.texts.specs.Texts.{unless_nought}
+use Rattle.answers.specs.Charts.{time_bar, padded, bar}
+use Rattle.texts.proofs.Joined.{start_in_turn}
+use Rattle.answers.proofs.Timed.{more_read, all_read}
 use Rattle.answers.proofs.charts.write_time_bars.Goals as goal
 
 pub loop-time-init : goal.loop-time-init
@@ -9,6 +13,16 @@ loop-time-init g c = start_in_turn (λ time. time_bar g.W.Printable.size c.args.
 
 pub loop-time-preserved : goal.loop-time-preserved
 loop-time-preserved g c =
+    let sheet = c.args.sheet.now in
+    let road = YieldsList-at c.into_iter-time-iterator.ensures.into_iter_gives (YieldsList-from_enumerate (YieldsList-at c.enumerate-time-items.ensures.source (YieldsList-from_take 256 (YieldsList-from_slice sheet cc) c.take.ensures.count)) c.enumerate-time-items.ensures.count) in
+    let turn = YieldsList-turn road c.loop-time.yielded c.loop-time.time-iterator c.loop-time.yielded_by c.next.result c.next.new.self (c.in-Some.time, c.in-Some.cell) c.in-Some.is c.next.ensures.steps in
+    more_read g.W.Weight.ops (time_bar g.W.Printable.size c.args.most) sheet c.loop-time.yielded c.in-Some.time c.in-Some.cell (vec_items c.args.out.now) _ _ turn c.loop-time.invariant c.in_ok-write_time_bar.ensures
+
+pub returns : goal.returns
+returns g c =
+    let sheet = c.args.sheet.now in
     let line = time_bar g.W.Printable.size c.args.most in
-    let n = c.loop-time.time in
-    more_in_turn (λ time. line time (cells g.W.Weight.ops c.args.sheet.now time)) n _ (vec_items c.args.out.now) _ _ (ap (line n) c.cell_at.ensures) c.loop-time.invariant c.in_ok-write_time_bar.ensures
+    let road = YieldsList-at c.into_iter-time-iterator.ensures.into_iter_gives (YieldsList-from_enumerate (YieldsList-at c.enumerate-time-items.ensures.source (YieldsList-from_take 256 (YieldsList-from_slice sheet cc) c.take.ensures.count)) c.enumerate-time-items.ensures.count) in
+    let done = YieldsList-end road c.loop-time.yielded c.loop-time.time-iterator c.loop-time.yielded_by c.next.result c.next.new.self c.in-None.is c.next.ensures.steps in
+    let blank : (k : ℕ) → line k g.W.Weight.ops.nought ≡ [] = λ k. ap (λ s. unless_nought s (padded k ++ bar c.args.most s)) g.met.W.Printable.nought_sized in
+    c.loop-time.invariant ∙ ap (λ s. vec_items c.args.out.now ++ s) (all_read g.W.Weight.ops line sheet (length c.loop-time.yielded) blank done.1)
