@@ -68,6 +68,7 @@ fn overrun<W: Weight>(part: &[W], table: &[Pair]) -> W
 fn spread<W: Weight>(part: &mut [W], table: &[Pair])
     ensures { cells W.ops part.new ≡ joint (arriving W.ops 0 (cells W.ops part.old) table.now) (cells W.ops part.old) (length part.old) }
 {
+    // Stays: no plainer otherwise: each cell is written from the cells below it, which a loop over the cells cannot read.
     for x in (0..part.len()).rev() {
         part[x] = arrived(part, table, x);
     }

@@ -22,6 +22,7 @@ fn take_differences(part: &mut [Count], by: u64)
     ensures { cells count_ops part.new ≡ lessened by (cells count_ops part.old) }
 {
     let mut next = 0;
+    // Stays: tried on `gather_tails`, and the proof did not close: after `iter_mut().rev()` the check knows no cell of the part.
     for x in (0..part.len()).rev() {
         let here = round_up(part[x].value(), by);
         part[x] = Count::new(here.saturating_sub(next));

@@ -33,6 +33,7 @@ pub fn gathered<W: Weight>(part: &[W]) -> W
 pub fn erase<W: Weight>(part: &mut [W])
     ensures { cells W.ops part.new ≡ (λ _. W.ops.nought) }
 {
+    // Stays: tried, and the proof did not close: `fill` asks for a clone that cannot fail, which the bound `Weight` does not say.
     for cell in part.iter_mut() {
         *cell = W::nought();
     }

@@ -12,6 +12,7 @@ pub fn gather_tails<W: Weight>(part: &mut [W])
     ensures { cells W.ops part.new ≡ tails_to W.ops (length part.old) (cells W.ops part.old) }
 {
     let mut tail = W::nought();
+    // Stays: tried, and the proof did not close: after `iter_mut().rev()` the check knows no cell of the part.
     for x in (0..part.len()).rev() {
         tail = part[x].sum(tail);
         part[x] = tail;
