@@ -79,7 +79,12 @@ pub fn load(draft: &mut Draft, file: &[u8]) -> Result<(), Fault>
     ensures answers { fault_in result ≡ fault_of (loaded file.now) }
     ensures leaves { draft_book draft.new ≡ book_or (loaded file.now) (draft_book draft.old) }
 {
-    let next = draft_of(file)?;
-    *draft = next;
-    Ok(())
+    // A `?` here gets no proof: the check is not told which modules hold a task's types, and calls that a bug of its own.
+    match draft_of(file) {
+        Ok(next) => {
+            *draft = next;
+            Ok(())
+        }
+        Err(fault) => Err(fault),
+    }
 }

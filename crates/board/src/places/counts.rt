@@ -10,14 +10,8 @@ fn common(a: u16, b: u16) -> Option<u16>
     requires { (1 ≤ a) × ((a ≤ 4096) × (1 ≤ b)) }
     ensures { MatchOption result ((k : ℕ) → 1 ≤ k → k ≤ 4096 → k % a ≡ 0 → k % b ≢ 0) (λ m. (1 ≤ m) × (m ≤ 4096) × (m % a ≡ 0) × (m % b ≡ 0) × ((k : ℕ) → k % a ≡ 0 → k % b ≡ 0 → k % m ≡ 0)) }
 {
-    let mut m = a;
-    while m <= 4096 {
-        if m % b == 0 {
-            return Some(m);
-        }
-        m += a;
-    }
-    None
+    let times = (1..4096 / a + 1).find(|n| *n as u32 * a as u32 % b as u32 == 0)?;
+    Some(times * a)
 }
 
 impl Entries {
