@@ -53,10 +53,8 @@ module _ (f : List ℕ) (i end : ℕ) (lt : i < byte f 0) where
   taken : take (i + 1) (contents f) ≡ take i (contents f) ++ here ∷ []
   taken = take_more (contents f) i here in_contents ∙ ap (λ e. take i (contents f) ++ e ∷ []) (get_or_contents f i here lt)
 
-  pub stops : (held before : List Entry) → before ≡ held → 1 ≤ entry_number f end before here → entries_fault f (1 + 5 * i) end held (drop i (contents f)) ≡ Some (file_fault (entry_number f end before here) (1 + 5 * i))
-  stops held before is h =
-      ap (λ b. entries_fault f (1 + 5 * i) end b (drop i (contents f))) (sym is)
-      ∙ (dropped (entries_fault f (1 + 5 * i) end before) ∙ fault_here f (1 + 5 * i) end before here (drop (i + 1) (contents f)) h)
+  pub stops : (held : List Entry) → 1 ≤ entry_number f end held here → entries_fault f (1 + 5 * i) end held (drop i (contents f)) ≡ Some (file_fault (entry_number f end held here) (1 + 5 * i))
+  stops held h = dropped (entries_fault f (1 + 5 * i) end held) ∙ fault_here f (1 + 5 * i) end held here (drop (i + 1) (contents f)) h
 
   module _ (held next : List Entry) (e : Entry) (same : e ≡ here) (pushed : next ≡ held ++ e ∷ []) where
     pushed_here : next ≡ held ++ here ∷ []
@@ -66,16 +64,13 @@ module _ (f : List ℕ) (i end : ℕ) (lt : i < byte f 0) where
     pub held_goes : held ≡ take i (contents f) → next ≡ take (i + 1) (contents f)
     held_goes q = pushed_here ∙ (ap (λ b. b ++ here ∷ []) q ∙ sym taken)
 
-    pub goes : (before : List Entry) → before ≡ held → entry_number f end before here ≡ 0
-        → entries_fault f (1 + 5 * i) end held (drop i (contents f)) ≡ entries_fault f (1 + 5 * (i + 1)) (body_end here) next (drop (i + 1) (contents f))
-    goes before is h =
+    pub goes : entry_number f end held here ≡ 0 → entries_fault f (1 + 5 * i) end held (drop i (contents f)) ≡ entries_fault f (1 + 5 * (i + 1)) (body_end here) next (drop (i + 1) (contents f))
+    goes h =
         let at : 1 + 5 * i + 5 ≡ 1 + 5 * (i + 1) = omega arith in
-        let more : before ++ here ∷ [] ≡ next = ap (λ b. b ++ here ∷ []) is ∙ sym pushed_here in
-        ap (λ b. entries_fault f (1 + 5 * i) end b (drop i (contents f))) (sym is)
-        ∙ (dropped (entries_fault f (1 + 5 * i) end before)
-        ∙ (fault_later f (1 + 5 * i) end before here (drop (i + 1) (contents f)) h
-        ∙ (ap (λ a. entries_fault f a (body_end here) (before ++ here ∷ []) (drop (i + 1) (contents f))) at
-        ∙ ap (λ b. entries_fault f (1 + 5 * (i + 1)) (body_end here) b (drop (i + 1) (contents f))) more)))
+        dropped (entries_fault f (1 + 5 * i) end held)
+        ∙ (fault_later f (1 + 5 * i) end held here (drop (i + 1) (contents f)) h
+        ∙ (ap (λ a. entries_fault f a (body_end here) (held ++ here ∷ []) (drop (i + 1) (contents f))) at
+        ∙ ap (λ b. entries_fault f (1 + 5 * (i + 1)) (body_end here) b (drop (i + 1) (contents f))) (sym pushed_here)))
 
   pub end_goes : last_end end (drop i (contents f)) ≡ last_end (body_end here) (drop (i + 1) (contents f))
   end_goes = dropped (last_end end)

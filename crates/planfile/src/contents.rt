@@ -33,37 +33,6 @@ impl Entry {
     {
         self.start as usize + self.size as usize
     }
-
-    /// Whether the place is one that no entry before it uses, and the body starts where the body before it ended and lies in the file.
-    fn is_placed(&self, file: &[u8], start: usize, before: &[Entry]) -> bool
-        ensures { result ≡ placed file.now start before.now self.now }
-    {
-        self.place <= 15
-            && !is_used(before, self.place)
-            && self.start as usize == start
-            && self.end() <= file.len()
-    }
-
-    /// Reads the entry at an offset and checks it, where the entries before it are right and their last body ended at `start`.
-    fn checked(file: &[u8], at: usize, start: usize, before: &[Entry]) -> Result<Entry, Fault>
-        requires { at + 4 < length file.now }
-        ensures { MatchResult result (λ e. (e ≡ entry file.now at) × (entry_number file.now start before.now (entry file.now at) ≡ 0)) (λ e. (told e ≡ file_fault (entry_number file.now start before.now (entry file.now at)) at) × (1 ≤ entry_number file.now start before.now (entry file.now at))) }
-    {
-        let missing = Fault::file(FileFault::Entry, at);
-        let entry = Entry::read(&Fields { file, missing }, at)?;
-        if !entry.is_placed(file, start, before) {
-            return Err(missing);
-        }
-        let missing = Fault::file(FileFault::Length, at);
-        if entry.size < 6 {
-            return Err(missing);
-        }
-        let pairs = Fields { file, missing }.byte(entry.start as usize + 5)?;
-        if entry.size != 6 + 3 * pairs as u16 {
-            return Err(missing);
-        }
-        Ok(entry)
-    }
 }
 
 /// Whether one of the entries uses the place.
@@ -85,7 +54,7 @@ fn count(file: &[u8]) -> Result<usize, Fault>
     Ok(count)
 }
 
-/// The contents of a plan file: its entries, and where the last body ends.
+/// The contents of a plan file, as far as they are read: the entries, and where the last body ends.
 #[derive(Clone, Copy)]
 pub(crate) struct Contents {
     pub(crate) entries: ShortList<Entry, 16>,
@@ -93,25 +62,59 @@ pub(crate) struct Contents {
 }
 
 impl Contents {
+    /// Whether the place is one that no entry uses, and the body starts where the last body ends and lies in the file.
+    fn admits(&self, file: &[u8], next: &Entry) -> bool
+        ensures { result ≡ placed file.now self.now.end self.now.entries.items next.now }
+    {
+        next.place <= 15
+            && !is_used(self.entries.as_slice(), next.place)
+            && next.start as usize == self.end
+            && next.end() <= file.len()
+    }
+
+    /// Reads the entry at an offset and checks it, where the entries before it are these and are right.
+    fn next_entry(&self, file: &[u8], at: usize) -> Result<Entry, Fault>
+        requires { at + 4 < length file.now }
+        ensures { MatchResult result (λ e. (e ≡ entry file.now at) × (entry_number file.now self.now.end self.now.entries.items (entry file.now at) ≡ 0)) (λ e. (told e ≡ file_fault (entry_number file.now self.now.end self.now.entries.items (entry file.now at)) at) × (1 ≤ entry_number file.now self.now.end self.now.entries.items (entry file.now at))) }
+    {
+        let missing = Fault::file(FileFault::Entry, at);
+        let entry = Entry::read(&Fields { file, missing }, at)?;
+        if !self.admits(file, &entry) {
+            return Err(missing);
+        }
+        let missing = Fault::file(FileFault::Length, at);
+        if entry.size < 6 {
+            return Err(missing);
+        }
+        let pairs = Fields { file, missing }.byte(entry.start as usize + 5)?;
+        if entry.size != 6 + 3 * pairs as u16 {
+            return Err(missing);
+        }
+        Ok(entry)
+    }
+
     /// Reads the contents and checks them whole.
     pub(crate) fn read(file: &[u8]) -> Result<Contents, Fault>
         ensures { MatchResult result (λ c. (contents_fault file.now ≡ None) × (c.entries.items ≡ contents file.now) × (c.end ≡ last_end (contents_end file.now) (contents file.now))) (λ e. contents_fault file.now ≡ Some (told e)) }
     {
         let count = count(file)?;
-        let mut entries = ShortList::new(Entry {
+        let blank = Entry {
             place: 0,
             start: 0,
             size: 0,
-        });
-        let mut end = 1 + 5 * count;
+        };
+        let mut read = Contents {
+            entries: ShortList::new(blank),
+            end: 1 + 5 * count,
+        };
         // Stays: entry `i` is read at its offset by the reader that answers the fault; chunks of the file would go past that reader.
         for i in 0..count {
-            let entry = Entry::checked(file, 1 + 5 * i, end, entries.as_slice())?;
-            let Ok(()) = entries.push(entry) else {
+            let entry = read.next_entry(file, 1 + 5 * i)?;
+            let Ok(()) = read.entries.push(entry) else {
                 unreachable!()
             };
-            end = entry.end();
+            read.end = entry.end();
         }
-        Ok(Contents { entries, end })
+        Ok(read)
     }
 }

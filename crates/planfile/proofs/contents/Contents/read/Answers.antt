@@ -23,7 +23,7 @@ returns-in_err-entry c =
     let k = c.in_err-entry.ensures in
     let i = c.loop-i.i in
     let lt : i < byte f 0 = omega arith in
-    let s = stops f i c.loop-i.end lt c.loop-i.entries.items c.as_slice.result.now c.as_slice.ensures.is k.1 in
+    let s = stops f i c.loop-i.read.end lt c.loop-i.read.entries.items k.1 in
     rw (p.1, p.2) (cond-true _ _ _ n.1 ∙ (sym c.loop-i.invariant.3 ∙ (s ∙ ap Some (sym k.0))))
 
 pub loop-i-preserved : goal.loop-i-preserved
@@ -33,17 +33,17 @@ loop-i-preserved c =
     let k = c.in_ok-entry.ensures in
     let i = c.loop-i.i in
     let e = c.in_ok-entry.entry in
-    let held = c.loop-i.entries.items in
+    let held = c.loop-i.read.entries.items in
     let next = c.push.new.self.items in
     let inv = c.loop-i.invariant in
     let lt : i < byte f 0 = omega arith in
     let pushed : next ≡ held ++ e ∷ [] = ap (λ s. s.items) c.in-Ok.ensures.1 in
-    let end : c.end-end.result ≡ body_end (entry f (1 + 5 * i)) = c.end-end.ensures ∙ ap body_end k.0 in (
-      held_goes f i c.loop-i.end lt held next e k.0 pushed inv.0,
+    let end : c.end.result ≡ body_end (entry f (1 + 5 * i)) = c.end.ensures ∙ ap body_end k.0 in (
+      held_goes f i c.loop-i.read.end lt held next e k.0 pushed inv.0,
       ap length pushed ∙ (length_push held e ∙ ap (λ m. m + 1) inv.1),
-      ap (λ x. last_end x (drop (i + 1) (contents f))) end ∙ (sym (end_goes f i c.loop-i.end lt) ∙ inv.2),
+      ap (λ x. last_end x (drop (i + 1) (contents f))) end ∙ (sym (end_goes f i c.loop-i.read.end lt) ∙ inv.2),
       ap (λ x. entries_fault f (1 + 5 * (i + 1)) x next (drop (i + 1) (contents f))) end
-          ∙ (sym (goes f i c.loop-i.end lt held next e k.0 pushed c.as_slice.result.now c.as_slice.ensures.is k.1) ∙ inv.3),
+          ∙ (sym (goes f i c.loop-i.read.end lt held next e k.0 pushed k.1) ∙ inv.3),
     )
 
 pub returns : goal.returns
@@ -55,7 +55,7 @@ returns c =
     let inv = c.loop-i.invariant in
     let m = length_contents f in
     let le : length (contents f) ≤ i = omega arith in (
-      cond-true _ _ _ n.1 ∙ (sym inv.3 ∙ at_drop_all (entries_fault f (1 + 5 * i) c.loop-i.end c.loop-i.entries.items) (contents f) i le),
+      cond-true _ _ _ n.1 ∙ (sym inv.3 ∙ at_drop_all (entries_fault f (1 + 5 * i) c.loop-i.read.end c.loop-i.read.entries.items) (contents f) i le),
       inv.0 ∙ take_all i (contents f) le,
-      sym (at_drop_all (last_end c.loop-i.end) (contents f) i le) ∙ inv.2,
+      sym (at_drop_all (last_end c.loop-i.read.end) (contents f) i le) ∙ inv.2,
     )
