@@ -51,11 +51,11 @@ impl FromField for Pair {
 }
 
 /// Reads all the fields as pairs.
-pub(crate) fn pairs(mut fields: Fields) -> Option<PairList>
+pub(crate) fn pairs(fields: Fields) -> Option<PairList>
     ensures { result ≡ option_map kept (pairs_of (left fields.entry)) }
 {
     let mut list = PairList::new();
-    while let Some(field) = fields.next() {
+    for field in fields {
         list.push(Pair::from_field(field)?);
     }
     Some(list)
