@@ -1,5 +1,5 @@
 //! The pairs of a table, as a line gives them.
-ghost use Rattle.std.specs.Prelude.{◌≡◌, [], Some, None, MatchOption};
+ghost use Rattle.std.specs.Prelude.{◌≡◌, []};
 ghost use Rattle.std.specs.Option.{option_map};
 ghost use Rattle.lines.specs.Fields.{left};
 ghost use Rattle.lines.specs.Tables.{pair as pair_of, pairs as pairs_of, listed, kept, with_pair};
