@@ -1,5 +1,5 @@
 -- The first field of a line.
-use Rattle.std.proofs.Common.{◌≡◌, ℕ, suc, ◌+◌, ◌-◌, ◌<◌, ◌≤◌, Bool, true, false, cond, not, ltb, List, [], ◌∷◌, length, take, drop, Some, None, Option, sym, refl, ap, ◌∙◌, subst, ⊎_elim, arith}
+use Rattle.std.proofs.Common.{◌≡◌, ℕ, suc, ◌+◌, ◌-◌, ◌≤◌, Bool, true, false, cond, not, ltb, List, [], ◌∷◌, length, take, drop, Some, None, Option, sym, refl, ap, ◌∙◌, subst, ⊎_elim, arith}
 use Rattle.std.proofs.lemmas.List.{length-drop}
 use Rattle.std.proofs.lemmas.List.Recursion.{is_position_or_len}
 use Rattle.std.proofs.lemmas.Bool.{cond-true, cond-false, cases_Bool, cases_lt, lt-ltb, le-ltb}
@@ -130,7 +130,7 @@ its_width line o e =
     (cases_lt n (length line))
 
 -- a line is its first field, after the blanks ahead, and the fields of what follows it
-pub next_field : (bs line field rest : List ℕ) (ahead width : ℕ) → Some ahead ≡ position (λ b. not (blank b)) bs → line ≡ drop ahead bs → width ≡ first_blank line → field ≡ take width line → rest ≡ drop width line → (fields bs ≡ field ∷ fields rest) × (length rest < length bs)
+pub next_field : (bs line field rest : List ℕ) (ahead width : ℕ) → Some ahead ≡ position (λ b. not (blank b)) bs → line ≡ drop ahead bs → width ≡ first_blank line → field ≡ take width line → rest ≡ drop width line → fields bs ≡ field ∷ fields rest
 next_field bs line field rest ahead width at l w f r =
     let found = place (λ b. not (blank b)) bs ahead at in
     let a : ahead ≡ blanks_ahead bs = found.0 ∙ sym (blanks_place bs) in
@@ -139,7 +139,4 @@ next_field bs line field rest ahead width at l w f r =
     let same : line ≡ drop (blanks_ahead bs) bs = subst (λ n. line ≡ drop n bs) a l in
     let starts : 1 ≤ first_blank line = subst (λ s. 1 ≤ first_blank s) (sym same) (starts_field bs (subst (λ s. 1 ≤ length s) same some)) in
     let first : fields line ≡ take width line ∷ fields (drop width line) = subst (λ n. fields line ≡ take n line ∷ fields (drop n line)) (sym w) (first_field line starts) in
-    let short : length rest ≡ length line - width = ap length r ∙ length-drop width line in (
-      after_blanks bs ∙ (ap fields (sym same) ∙ (first ∙ (ap (λ s. s ∷ fields (drop width line)) (sym f) ∙ ap (λ s. field ∷ fields s) (sym r)))),
-      omega arith,
-    )
+    after_blanks bs ∙ (ap fields (sym same) ∙ (first ∙ (ap (λ s. s ∷ fields (drop width line)) (sym f) ∙ ap (λ s. field ∷ fields s) (sym r))))

@@ -72,10 +72,10 @@ fn complete(mut fields: Fields, call: Call) -> Option<Call>
 fn enter(mut fields: Fields) -> Option<Call>
     ensures { result ≡ enter_of (left fields.entry) }
 {
-    let place = fields.take()?;
-    let period = fields.take()?;
-    let phase = fields.take()?;
-    let deadline = fields.take()?;
+    let place = fields.read()?;
+    let period = fields.read()?;
+    let phase = fields.read()?;
+    let deadline = fields.read()?;
     let table = pairs(fields)?;
     Some(Call::Enter {
         place,
@@ -90,7 +90,7 @@ fn enter(mut fields: Fields) -> Option<Call>
 fn withdraw(mut fields: Fields) -> Option<Call>
     ensures { result ≡ withdraw_of (left fields.entry) }
 {
-    let place = fields.take()?;
+    let place = fields.read()?;
     complete(fields, Call::Withdraw { place })
 }
 
@@ -106,7 +106,7 @@ fn opening(fields: Fields) -> Option<Call>
 fn rounds(mut fields: Fields) -> Option<Call>
     ensures { result ≡ rounds_of (left fields.entry) }
 {
-    let rounds = fields.take()?;
+    let rounds = fields.read()?;
     complete(fields, Call::Rounds { rounds })
 }
 
@@ -114,10 +114,10 @@ fn rounds(mut fields: Fields) -> Option<Call>
 fn response(mut fields: Fields) -> Option<Call>
     ensures { result ≡ response_of (left fields.entry) }
 {
-    let kind = fields.take()?;
-    let rule = fields.take()?;
-    let place = fields.take()?;
-    let index = fields.take()?;
+    let kind = fields.read()?;
+    let rule = fields.read()?;
+    let place = fields.read()?;
+    let index = fields.read()?;
     complete(
         fields,
         Call::Response {
@@ -133,9 +133,9 @@ fn response(mut fields: Fields) -> Option<Call>
 fn rounded(mut fields: Fields) -> Option<Call>
     ensures { result ≡ rounded_of (left fields.entry) }
 {
-    let rule = fields.take()?;
-    let place = fields.take()?;
-    let index = fields.take()?;
+    let rule = fields.read()?;
+    let place = fields.read()?;
+    let index = fields.read()?;
     complete(fields, Call::Rounded { rule, place, index })
 }
 
@@ -143,9 +143,9 @@ fn rounded(mut fields: Fields) -> Option<Call>
 fn task(mut fields: Fields) -> Option<Call>
     ensures { result ≡ task_of (left fields.entry) }
 {
-    let rule = fields.take()?;
-    let place = fields.take()?;
-    let round = fields.take()?;
+    let rule = fields.read()?;
+    let place = fields.read()?;
+    let round = fields.read()?;
     complete(fields, Call::Task { rule, place, round })
 }
 

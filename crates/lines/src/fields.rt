@@ -1,5 +1,6 @@
 //! The fields of a line.
-ghost use Rattle.std.specs.Prelude.{◌≡◌, ◌<◌, ℕ, List, [], ◌∷◌, Option, length, MatchOption};
+ghost use Rattle.std.specs.Prelude.{◌≡◌, ℕ, List, Option};
+ghost use Rattle.std.specs.Iterator.{YieldsFirstRef, item_count};
 ghost use Rattle.lines.specs.Fields.{blank, left, fields as fields_of};
 ghost use Rattle.lines.specs.Readings.{Takes};
 
@@ -21,7 +22,7 @@ fn is_blank(byte: u8) -> bool
 }
 
 /// The fields of a line that are still to be read.
-#[derive(Clone, Copy)]
+#[derive(Drop)]
 pub(crate) struct Fields<'a> {
     rest: &'a [u8],
 }
@@ -34,22 +35,27 @@ impl<'a> Fields<'a> {
         Fields { rest: line }
     }
 
-    /// Takes the next field.
-    pub(crate) fn next(&mut self) -> Option<&'a [u8]>
-        ensures { MatchOption result (left self.old ≡ []) (λ f. (left self.old ≡ f.now ∷ left self.new) × (length self.new.rest.now < length self.old.rest.now)) }
+    /// Takes the next field, and reads it.
+    pub(crate) fn read<T: FromField>(&mut self) -> Option<T>
+        ensures { Takes T.reads (left self.old) result (left self.new) }
     {
+        T::from_field(self.next()?)
+    }
+}
+
+impl<'a> Iterator for Fields<'a> {
+    type Item = &'a [u8];
+
+    ghost next_gives = { YieldsFirstRef left };
+
+    ghost remaining = { item_count left };
+
+    fn next(&mut self) -> Option<&'a [u8]> {
         let blanks = self.rest.iter().position(|b| !is_blank(*b))?;
         let line = &self.rest[blanks..];
         let width = line.iter().position(|b| is_blank(*b)).unwrap_or(line.len());
         let (field, rest) = line.split_at(width);
         self.rest = rest;
         Some(field)
-    }
-
-    /// Takes the next field, and reads it.
-    pub(crate) fn take<T: FromField>(&mut self) -> Option<T>
-        ensures { Takes T.reads (left self.old) result (left self.new) }
-    {
-        T::from_field(self.next()?)
     }
 }

@@ -7,7 +7,7 @@ use crate::words::cut;
 use analysis::{ShortList, TableRule};
 
 /// Which weights a response is asked in.
-#[derive(Clone, Copy)]
+#[derive(Clone, Copy, Debug, PartialEq, Eq)]
 pub enum Kind {
     /// Counts: weights are summed.
     Counts,

@@ -1,5 +1,5 @@
 //! The pairs of a table, as a line gives them.
-ghost use Rattle.std.specs.Prelude.{◌≡◌, [], Some, None, MatchOption};
+ghost use Rattle.std.specs.Prelude.{◌≡◌, []};
 ghost use Rattle.std.specs.Option.{option_map};
 ghost use Rattle.lines.specs.Fields.{left};
 ghost use Rattle.lines.specs.Tables.{pair as pair_of, pairs as pairs_of, listed, kept, with_pair};
@@ -51,11 +51,11 @@ impl FromField for Pair {
 }
 
 /// Reads all the fields as pairs.
-pub(crate) fn pairs(mut fields: Fields) -> Option<PairList>
+pub(crate) fn pairs(fields: Fields) -> Option<PairList>
     ensures { result ≡ option_map kept (pairs_of (left fields.entry)) }
 {
     let mut list = PairList::new();
-    while let Some(field) = fields.next() {
+    for field in fields {
         list.push(Pair::from_field(field)?);
     }
     Some(list)

@@ -1,4 +1,4 @@
-use Rattle.std.proofs.Common.{◌∙◌, ◌≢◌, eqb, [], length, MatchResult, sym, ap, subst, rules}
+use Rattle.std.proofs.Common.{◌∙◌, ◌≢◌, eqb, length, MatchResult, sym, ap, subst, rules}
 use borrow.Author.Tests.{tests}
 use Rattle.std.specs.Array.{IsWholeChunk}
 use Rattle.std.specs.Slice.Iter.{split_rest, split_done, split_callee}
