@@ -27,8 +27,7 @@ impl Reading {
         self.ended = self.ended.saturating_add(1);
         let line = self.line.read();
         self.line.clear();
-        let next = book.line(&line, self.ended, self.chart, out)?;
-        Ok(next)
+        book.line(&line, self.ended, self.chart, out)
     }
 
     /// Takes a byte of the script, and answers the line that it ends.
@@ -44,20 +43,18 @@ impl Reading {
             self.line.push(byte);
             return Ok(book);
         }
-        let next = self.end_line(book, out)?;
-        Ok(next)
+        self.end_line(book, out)
     }
 
     /// Takes bytes of the script, and answers each line that they end.
     pub fn take(
         &mut self,
-        book: ScriptBook,
+        mut book: ScriptBook,
         bytes: &[u8],
         out: &mut Vec<u8>,
     ) -> Result<ScriptBook, AllocError>
         ensures { IfOk result (λ b. progress self.new b out.new.items ≡ taken (progress self.old book out.old.items) bytes.now) }
     {
-        let mut book = book;
         for byte in bytes {
             book = self.take_byte(book, *byte, out)?;
         }
@@ -71,7 +68,6 @@ impl Reading {
         if self.line.is_empty() {
             return Ok(book);
         }
-        let next = self.end_line(book, out)?;
-        Ok(next)
+        self.end_line(book, out)
     }
 }
