@@ -1,5 +1,5 @@
 //! How the edits of a book are drawn.
-use crate::edits::Edit;
+use crate::edits::{Edit, Entering};
 use crate::generator::Generator;
 use crate::tables::{Shape, draw, unlawful};
 
@@ -142,13 +142,13 @@ fn draw_enter(g: &mut Generator, look: &Look) -> Edit {
         0
     };
     let deadline = g.between(look.low_deadline as u32, look.high_deadline as u32);
-    Edit::Enter {
+    Edit::Enter(Entering {
         place: place as u8,
         period,
         phase: phase as u16,
         deadline: deadline as u8,
         table: draw(g, &look.table),
-    }
+    })
 }
 
 /// A task of which any part may be wrong.
@@ -172,13 +172,13 @@ fn draw_wrong_enter(g: &mut Generator, look: &Look) -> Edit {
     } else {
         draw(g, &look.table)
     };
-    Edit::Enter {
+    Edit::Enter(Entering {
         place: place as u8,
         period: period as u16,
         phase: phase as u16,
         deadline,
         table,
-    }
+    })
 }
 
 /// An opening table of up to three pairs.

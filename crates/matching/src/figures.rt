@@ -1,75 +1,75 @@
 //! The shares of late jobs of a published example: three tasks with uniform running times.
 use crate::asks::{Ask, task};
-use crate::edits::{Edit, edit_draft};
+use crate::edits::{Edit, Entering, edit_draft};
 use crate::rules::Rule;
-use crate::tables::Table;
-use book::{Draft, Plan, TaskLateness};
+use crate::tables::{Table, add_pair, empty_table};
+use book::{Draft, Plan, Refusal, TaskLateness};
 use std::io;
 
 /// The times from `low` up to but without `end`, each of weight 1.
 fn uniform(low: u8, end: u8) -> Table {
-    let mut table = Table::empty();
+    let mut table = empty_table();
     for time in low..end {
-        table.push(time, 1);
+        add_pair(&mut table, time, 1);
     }
     table
 }
 
 /// The times 16 to 36 in sixteen pairs: the first ten times in couples, each at the longer time of the two.
 fn merged() -> Table {
-    let mut table = Table::empty();
+    let mut table = empty_table();
     for couple in 0..5u8 {
-        table.push(17 + 2 * couple, 2);
+        add_pair(&mut table, 17 + 2 * couple, 2);
     }
     for time in 26..37u8 {
-        table.push(time, 1);
+        add_pair(&mut table, time, 1);
     }
     table
 }
 
 /// The times 0, 7 and 14: with one of the times 16 to 22 they add up to each of 16 to 36.
 fn sevens() -> Table {
-    let mut table = Table::empty();
+    let mut table = empty_table();
     for step in 0..3u8 {
-        table.push(7 * step, 1);
+        add_pair(&mut table, 7 * step, 1);
     }
     table
 }
 
 /// Enters a task whose deadline is its period.
-fn enter(draft: &mut Draft, place: u8, period: u8, table: Table) -> u8 {
-    let edit = Edit::Enter {
+fn enter(draft: &mut Draft, place: u8, period: u8, table: Table) -> Result<(), Refusal> {
+    let task = Entering {
         place,
-        period: period as u16,
+        period: period.into(),
         phase: 0,
         deadline: period,
         table,
     };
-    edit_draft(draft, &edit)
+    edit_draft(draft, &Edit::Enter(task))
 }
 
 /// A draft of eight rounds with the first two tasks.
-fn first_tasks() -> Draft {
+fn first_tasks() -> Result<Draft, Refusal> {
     let mut draft = Draft::new();
-    edit_draft(&mut draft, &Edit::Rounds(8));
-    enter(&mut draft, 0, 20, uniform(4, 11));
-    enter(&mut draft, 1, 60, uniform(12, 23));
-    draft
+    edit_draft(&mut draft, &Edit::Rounds(8))?;
+    enter(&mut draft, 0, 20, uniform(4, 11))?;
+    enter(&mut draft, 1, 60, uniform(12, 23))?;
+    Ok(draft)
 }
 
 /// The plan with the third task at place 2, its times merged.
-fn merged_plan() -> Plan {
-    let mut draft = first_tasks();
-    enter(&mut draft, 2, 90, merged());
-    draft.issue()
+fn merged_plan() -> Result<Plan, Refusal> {
+    let mut draft = first_tasks()?;
+    enter(&mut draft, 2, 90, merged())?;
+    Ok(draft.issue())
 }
 
 /// The plan with the third task in two parts, at places 2 and 3: the second part ends when the task does.
-fn parted_plan() -> Plan {
-    let mut draft = first_tasks();
-    enter(&mut draft, 2, 90, sevens());
-    enter(&mut draft, 3, 90, uniform(16, 23));
-    draft.issue()
+fn parted_plan() -> Result<Plan, Refusal> {
+    let mut draft = first_tasks()?;
+    enter(&mut draft, 2, 90, sevens())?;
+    enter(&mut draft, 3, 90, uniform(16, 23))?;
+    Ok(draft.issue())
 }
 
 /// The late share of the jobs in ten-thousandths, rounded up.
@@ -111,24 +111,35 @@ fn print_share(
                 "{name}, place {place}: late {late_whole}.{late_rest:04}, published {whole}.{rest:04}"
             )
         }
-        Err(number) => println!(rt; "{name}, place {place}: refused with {number}"),
+        Err(refusal) => {
+            let number = refusal.number();
+            println!(rt; "{name}, place {place}: refused with {number}")
+        }
     }
 }
 
 /// Prints the shares of the three tasks under both rules; the third task ends at the place `last`.
-fn print_plan(rt: &HostRuntime, plan: &Plan, last: u8) -> io::Result<()> {
-    print_share(rt, plan, Rule::Period, "period rule", 0, 0)?;
-    print_share(rt, plan, Rule::Period, "period rule", 1, 0)?;
-    print_share(rt, plan, Rule::Period, "period rule", last, 3852)?;
-    print_share(rt, plan, Rule::Deadline, "deadline rule", 0, 224)?;
-    print_share(rt, plan, Rule::Deadline, "deadline rule", 1, 169)?;
-    print_share(rt, plan, Rule::Deadline, "deadline rule", last, 81)
+fn print_plan(rt: &HostRuntime, plan: Result<Plan, Refusal>, last: u8) -> io::Result<()> {
+    match plan {
+        Ok(plan) => {
+            print_share(rt, &plan, Rule::Period, "period rule", 0, 0)?;
+            print_share(rt, &plan, Rule::Period, "period rule", 1, 0)?;
+            print_share(rt, &plan, Rule::Period, "period rule", last, 3852)?;
+            print_share(rt, &plan, Rule::Deadline, "deadline rule", 0, 224)?;
+            print_share(rt, &plan, Rule::Deadline, "deadline rule", 1, 169)?;
+            print_share(rt, &plan, Rule::Deadline, "deadline rule", last, 81)
+        }
+        Err(refusal) => {
+            let number = refusal.number();
+            println!(rt; "an edit was refused with {number}")
+        }
+    }
 }
 
 /// Prints the shares with the third task's times merged, and with the third task in two parts.
 pub(crate) fn print_figures(rt: &HostRuntime) -> io::Result<()> {
     println!(rt; "late shares, the third task's 21 times merged into 16 pairs:")?;
-    print_plan(rt, &merged_plan(), 2)?;
+    print_plan(rt, merged_plan(), 2)?;
     println!(rt; "late shares, the third task in two parts at places 2 and 3:")?;
-    print_plan(rt, &parted_plan(), 3)
+    print_plan(rt, parted_plan(), 3)
 }

@@ -13,6 +13,7 @@ mod matches;
 mod pairs;
 mod questions;
 mod rules;
+mod sides;
 mod sims;
 mod tables;
 mod tally;
@@ -21,9 +22,8 @@ mod worked;
 use figures::print_figures;
 use generator::Generator;
 use matches::MatchTallies;
-use pairs::PairTallies;
 use std::io;
-use tally::{Refusals, Tally};
+use tally::{KINDS, Refusals, Tallies, Tally};
 use worked::work_examples;
 
 /// Prints a group's line.
@@ -34,29 +34,37 @@ fn print_tally(rt: &HostRuntime, name: &str, tally: &Tally) -> io::Result<()> {
     println!(rt; "{name}: {asked} asked, {answered} answered, {differ} differ")
 }
 
-/// Prints a group's line, with how many answers are late.
-fn print_late(rt: &HostRuntime, name: &str, tally: &Tally) -> io::Result<()> {
+/// Prints a line for each group, after `prefix`; `word` says what the counted late answers are.
+fn print_groups(rt: &HostRuntime, prefix: &str, word: &str, groups: &Tallies) -> io::Result<()> {
+    print!(rt; "{prefix}")?;
+    print_tally(rt, "edits", &groups.edits)?;
+    for (tally, (_, name)) in groups.exact.iter().zip(KINDS) {
+        print_late(rt, prefix, name, word, tally)?;
+    }
+    print_late(rt, prefix, "rounded", word, &groups.rounded)?;
+    print_late(rt, prefix, "task", word, &groups.task)
+}
+
+/// Prints a group's line, with how many answers are late, or later.
+fn print_late(
+    rt: &HostRuntime,
+    prefix: &str,
+    name: &str,
+    word: &str,
+    tally: &Tally,
+) -> io::Result<()> {
     let asked = tally.asked;
     let answered = tally.answered;
     let late = tally.late;
     let differ = tally.differ;
-    println!(rt; "{name}: {asked} asked, {answered} answered, {late} late, {differ} differ")
-}
-
-/// Prints a group's line, with how many answers of the second book are later.
-fn print_later(rt: &HostRuntime, name: &str, tally: &Tally) -> io::Result<()> {
-    let asked = tally.asked;
-    let answered = tally.answered;
-    let later = tally.late;
-    let differ = tally.differ;
     println!(rt;
-        "never better, {name}: {asked} asked, {answered} answered, {later} later, {differ} differ"
+        "{prefix}{name}: {asked} asked, {answered} answered, {late} {word}, {differ} differ"
     )
 }
 
 /// Prints how many questions had too many scenarios or too large numbers.
 fn print_skipped(rt: &HostRuntime, tallies: &MatchTallies) -> io::Result<()> {
-    let questions = tallies.counts.skipped;
+    let questions = tallies.groups.exact[0].skipped;
     let numbers = tallies.close.skipped;
     println!(rt;
         "passed over: {questions} jobs with too many scenarios, {numbers} with numbers above 128 bits"
@@ -75,31 +83,19 @@ fn print_refusals(rt: &HostRuntime, refusals: &Refusals) -> io::Result<()> {
 
 /// Puts generated books and questions to both sides, and prints how many answers differ.
 fn print_matches(rt: &HostRuntime) -> io::Result<()> {
-    let mut g = Generator::new(1);
-    let mut tallies = MatchTallies::new();
-    tallies.run_all(&mut g, 3000);
-    print_tally(rt, "edits", &tallies.edits)?;
-    print_late(rt, "response in counts", &tallies.counts)?;
-    print_late(rt, "response in possible", &tallies.possible)?;
-    print_late(rt, "response in heaviest", &tallies.heaviest)?;
-    print_late(rt, "rounded", &tallies.rounded)?;
-    print_late(rt, "task", &tallies.task)?;
-    print_late(rt, "close", &tallies.close)?;
+    let mut tallies = MatchTallies::default();
+    tallies.run_all(&mut Generator::new(1), 3000);
+    print_groups(rt, "", "late", &tallies.groups)?;
+    print_late(rt, "", "close", "late", &tallies.close)?;
     print_skipped(rt, &tallies)?;
     print_refusals(rt, &tallies.refusals)
 }
 
 /// Makes runs of calls on two books, and prints how often the worse one answered better.
 fn print_pairs(rt: &HostRuntime) -> io::Result<()> {
-    let mut g = Generator::new(2);
-    let mut tallies = PairTallies::new();
-    tallies.run_all(&mut g, 400);
-    print_tally(rt, "never better, edits", &tallies.edits)?;
-    print_later(rt, "response in counts", &tallies.counts)?;
-    print_later(rt, "response in possible", &tallies.possible)?;
-    print_later(rt, "response in heaviest", &tallies.heaviest)?;
-    print_later(rt, "rounded", &tallies.rounded)?;
-    print_later(rt, "task", &tallies.task)
+    let mut groups = Tallies::default();
+    groups.run_pairs(&mut Generator::new(2), 400);
+    print_groups(rt, "never better, ", "later", &groups)
 }
 
 fn main(rt: HostRuntime) -> io::Result<()> {

@@ -1,27 +1,20 @@
 //! Generated books and questions, put to the book and to the simulator.
-use crate::asks::{Ask, Kind, exact, rounded, task};
+use crate::asks::{Ask, rounded};
 use crate::books::{Look, draw_look, draw_step};
-use crate::compare::{is_close, same_exact, same_rounded, same_task};
-use crate::edits::edit_draft;
+use crate::compare::is_close;
 use crate::generator::Generator;
 use crate::questions::draw_ask;
-use crate::sims::{edit_sim, sim_exact, sim_rounded, sim_rule, sim_task};
-use crate::tally::{Refusals, Tally};
-use book::{Draft, Plan};
-use simulator::SimBook;
+use crate::sides::{Asked, Drafted};
+use crate::tally::{KINDS, Refusals, Tallies, Tally};
+use simulator::{SimAsk, SimBook};
 
 /// The most scenarios of a question that is put to the simulator.
 const MOST_SCENARIOS: u64 = 3000;
 
 /// The groups of the generated books, and how often each refusal came.
-#[derive(Clone, Copy)]
+#[derive(Clone, Copy, Default)]
 pub struct MatchTallies {
-    pub edits: Tally,
-    pub counts: Tally,
-    pub possible: Tally,
-    pub heaviest: Tally,
-    pub rounded: Tally,
-    pub task: Tally,
+    pub groups: Tallies,
     pub close: Tally,
     pub refusals: Refusals,
 }
@@ -29,9 +22,8 @@ pub struct MatchTallies {
 /// The question with its index halved until the simulator can answer it, or `None` if no halving helps.
 fn fitting(sim: &SimBook, ask: &Ask) -> Option<Ask> {
     let mut fitting = *ask;
-    let rule = sim_rule(ask.rule);
     for _ in 0..6u32 {
-        if sim.scenarios(&rule, fitting.place as u32, fitting.index) <= MOST_SCENARIOS {
+        if sim.scenarios(&SimAsk::from(fitting)) <= MOST_SCENARIOS {
             return Some(fitting);
         }
         fitting.index /= 2;
@@ -39,126 +31,63 @@ fn fitting(sim: &SimBook, ask: &Ask) -> Option<Ask> {
     None
 }
 
-/// Asks for the exact answer in a kind, and answers 0 or the refusal's number.
-fn match_exact(tally: &mut Tally, kind: Kind, plan: &Plan, sim: &SimBook, ask: &Ask) -> u8 {
-    let ours = exact(plan, kind, ask);
-    let theirs = sim_exact(sim, kind, ask);
-    tally.count(ours.is_ok(), same_exact(&ours, &theirs));
-    match ours {
-        Ok(cells) => {
-            tally.count_late(cells[256] > 0);
-            0
-        }
-        Err(number) => number,
-    }
-}
-
-/// Asks for the rounded late weight, and answers 0 or the refusal's number.
-fn match_rounded(tally: &mut Tally, plan: &Plan, sim: &SimBook, ask: &Ask) -> u8 {
-    let ours = rounded(plan, ask);
-    tally.count(ours.is_ok(), same_rounded(ours, sim_rounded(sim, ask)));
-    match ours {
-        Ok(late) => {
-            tally.count_late(late > 0);
-            0
-        }
-        Err(number) => number,
-    }
-}
-
-/// Asks for the lateness of a round, and answers 0 or the refusal's number.
-fn match_task(tally: &mut Tally, plan: &Plan, sim: &SimBook, ask: &Ask) -> u8 {
-    let ours = task(plan, ask);
-    tally.count(ours.is_ok(), same_task(ours, sim_task(sim, ask)));
-    match ours {
-        Ok(lateness) => {
-            tally.count_late(lateness.late > 0);
-            0
-        }
-        Err(number) => number,
-    }
-}
-
 /// Holds the rounded late weight against the exact share, where there are both.
-fn match_close(tally: &mut Tally, plan: &Plan, sim: &SimBook, ask: &Ask) {
-    let totals = sim.totals(&sim_rule(ask.rule), ask.place as u32, ask.index);
-    if let (Ok(late), Ok(totals)) = (rounded(plan, ask), totals) {
+fn match_close(tally: &mut Tally, asked: &Asked, ask: &Ask) {
+    let totals = asked.sim.totals(&SimAsk::from(*ask));
+    if let (Ok(late), Ok(totals)) = (rounded(&asked.plan, ask), totals) {
         match is_close(late, &totals) {
-            Some(close) => {
-                tally.count(true, close);
-                tally.count_late(late > 0);
-            }
+            Some(close) => tally.count_answer(Ok(late), close),
             None => tally.skip(),
         }
     }
 }
 
 impl MatchTallies {
-    /// Tallies with no question.
-    pub(crate) fn new() -> MatchTallies {
-        MatchTallies {
-            edits: Tally::new(),
-            counts: Tally::new(),
-            possible: Tally::new(),
-            heaviest: Tally::new(),
-            rounded: Tally::new(),
-            task: Tally::new(),
-            close: Tally::new(),
-            refusals: Refusals::new(),
-        }
-    }
-
     /// Makes drawn edits on both sides.
-    fn edit(&mut self, g: &mut Generator, look: &Look, draft: &mut Draft, sim: &mut SimBook) {
+    fn edit(&mut self, g: &mut Generator, look: &Look, drafted: &mut Drafted) {
         for step in 0..8u32 {
-            let edit = draw_step(g, look, step);
-            let number = edit_draft(draft, &edit);
-            let same = number as u32 == edit_sim(sim, &edit);
-            self.edits.count(number == 0, same);
-            self.refusals.count(number);
+            let edit = drafted.edit(&draw_step(g, look, step));
+            self.groups.edits.count(edit.ours.is_ok(), edit.same);
+            self.refusals.count(edit.ours);
         }
     }
 
     /// Asks both sides for the exact answer in each kind, and for the rounded one.
-    fn ask_exact(&mut self, plan: &Plan, sim: &SimBook, ask: &Ask) {
-        let counts = match_exact(&mut self.counts, Kind::Counts, plan, sim, ask);
-        self.refusals.count(counts);
-        let possible = match_exact(&mut self.possible, Kind::Possible, plan, sim, ask);
-        self.refusals.count(possible);
-        let heaviest = match_exact(&mut self.heaviest, Kind::Heaviest, plan, sim, ask);
-        self.refusals.count(heaviest);
-        match_close(&mut self.close, plan, sim, ask);
+    fn ask_exact(&mut self, asked: &Asked, ask: &Ask) {
+        for (tally, (kind, _)) in self.groups.exact.iter_mut().zip(KINDS) {
+            let exact = asked.exact(kind, ask);
+            tally.count_answer(exact.ours.map(|cells| cells[256]), exact.same);
+            self.refusals.count(exact.ours);
+        }
+        match_close(&mut self.close, asked, ask);
     }
 
     /// Asks drawn questions of both sides.
-    fn ask(&mut self, g: &mut Generator, plan: &Plan, sim: &SimBook) {
-        let ask = draw_ask(g, plan, 8);
-        match fitting(sim, &ask) {
-            Some(ask) => self.ask_exact(plan, sim, &ask),
-            None => {
-                self.counts.skip();
-                self.possible.skip();
-                self.heaviest.skip();
-            }
+    fn ask(&mut self, g: &mut Generator, asked: &Asked) {
+        let ask = draw_ask(g, &asked.plan, 8);
+        match fitting(&asked.sim, &ask) {
+            Some(ask) => self.ask_exact(asked, &ask),
+            None => self.groups.skip_exact(),
         }
-        let late = match_rounded(&mut self.rounded, plan, sim, &ask);
-        self.refusals.count(late);
-        let round = draw_ask(g, plan, 3);
-        let lateness = match_task(&mut self.task, plan, sim, &round);
-        self.refusals.count(lateness);
+        let late = asked.rounded(&ask);
+        self.groups.rounded.count_answer(late.ours, late.same);
+        self.refusals.count(late.ours);
+        let round = asked.task(&draw_ask(g, &asked.plan, 3));
+        let late = round.ours.map(|lateness| lateness.late);
+        self.groups.task.count_answer(late, round.same);
+        self.refusals.count(round.ours);
     }
 
     /// Edits a new book, asks questions, edits the book again, and asks again.
     fn run(&mut self, g: &mut Generator) {
         let look = draw_look(g);
-        let mut draft = Draft::new();
-        let mut sim = SimBook::new();
-        self.edit(g, &look, &mut draft, &mut sim);
-        let plan = draft.issue();
-        self.ask(g, &plan, &sim);
-        let mut draft = plan.reopen();
-        self.edit(g, &look, &mut draft, &mut sim);
-        self.ask(g, &draft.issue(), &sim);
+        let mut drafted = Drafted::new();
+        self.edit(g, &look, &mut drafted);
+        let asked = drafted.issue();
+        self.ask(g, &asked);
+        let mut drafted = asked.reopen();
+        self.edit(g, &look, &mut drafted);
+        self.ask(g, &drafted.issue());
     }
 
     /// Makes `runs` runs.

@@ -1,12 +1,13 @@
 //! Runs of calls on two books, of which the second has worse tables: no answer of the second may be better.
-use crate::asks::{Ask, Kind, exact, rounded, task};
+use crate::asks::{Ask, exact, rounded, task};
 use crate::books::{Look, draw_look, draw_step};
-use crate::edits::{Edit, edit_draft};
+use crate::edits::{Edit, Entering, edit_draft};
 use crate::generator::Generator;
 use crate::questions::draw_ask;
-use crate::tables::Table;
-use crate::tally::Tally;
-use book::{Draft, Plan, TimeTable};
+use crate::tables::{Table, add_pair, empty_table};
+use crate::tally::{KINDS, Tallies, Tally};
+use book::{Draft, Plan, Refusal, TaskLateness, TimeTable};
+use simulator::SimKind;
 
 /// How a table is made worse.
 #[derive(Clone, Copy)]
@@ -17,33 +18,33 @@ enum Way {
     Heavier,
 }
 
-/// The groups of these runs.
-#[derive(Clone, Copy)]
-pub struct PairTallies {
-    pub edits: Tally,
-    pub counts: Tally,
-    pub possible: Tally,
-    pub heaviest: Tally,
-    pub rounded: Tally,
-    pub task: Tally,
+/// Two drafts, of which the second has worse tables.
+#[derive(Drop)]
+pub struct Drafts {
+    first: Draft,
+    second: Draft,
+}
+
+/// The plans of two drafts.
+#[derive(Drop)]
+pub struct Plans {
+    first: Plan,
+    second: Plan,
 }
 
 /// The last time of the table, 255 where there is none.
 fn last_time(table: &Table) -> u8 {
-    match table.pairs().last() {
-        Some(pair) => pair.time,
-        None => 255,
-    }
+    table.as_slice().last().map_or(255, |pair| pair.time)
 }
 
 /// The table with longer times.
 fn longer(g: &mut Generator, table: &Table) -> Table {
     let room = 255 - last_time(table);
     let mut by: u8 = 0;
-    let mut later = Table::empty();
-    for pair in table.pairs() {
+    let mut later = empty_table();
+    for pair in table.as_slice() {
         by = by.saturating_add(g.below(4) as u8).min(room);
-        later.push(pair.time.saturating_add(by), pair.weight);
+        add_pair(&mut later, pair.time.saturating_add(by), pair.weight);
     }
     later
 }
@@ -52,22 +53,22 @@ fn longer(g: &mut Generator, table: &Table) -> Table {
 fn heavier(g: &mut Generator, table: &Table) -> Table {
     let last = last_time(table);
     let mut moved: u16 = 0;
-    let mut later = Table::empty();
-    for pair in table.pairs() {
+    let mut later = empty_table();
+    for pair in table.as_slice() {
         let held = pair.weight.saturating_add(moved);
         moved = if pair.time == last {
             0
         } else {
             g.below(held as u32) as u16
         };
-        later.push(pair.time, held.saturating_sub(moved));
+        add_pair(&mut later, pair.time, held.saturating_sub(moved));
     }
     later
 }
 
 /// A worse table of equal total, or the same table where it is not lawful.
 fn worse_table(g: &mut Generator, way: Way, table: &Table) -> Table {
-    if TimeTable::new(table.pairs()).is_none() {
+    if TimeTable::new(table.as_slice()).is_none() {
         return *table;
     }
     match way {
@@ -79,135 +80,135 @@ fn worse_table(g: &mut Generator, way: Way, table: &Table) -> Table {
 /// The edit with a worse table, if it has one.
 fn worse_edit(g: &mut Generator, way: Way, edit: &Edit) -> Edit {
     match edit {
-        Edit::Enter {
-            place,
-            period,
-            phase,
-            deadline,
-            table,
-        } => Edit::Enter {
-            place: *place,
-            period: *period,
-            phase: *phase,
-            deadline: *deadline,
-            table: worse_table(g, way, table),
-        },
+        Edit::Enter(task) => Edit::Enter(Entering {
+            table: worse_table(g, way, &task.table),
+            ..*task
+        }),
         Edit::Opening(table) => Edit::Opening(worse_table(g, way, table)),
-        Edit::Withdraw(place) => Edit::Withdraw(*place),
-        Edit::Rounds(rounds) => Edit::Rounds(*rounds),
+        Edit::Withdraw(_) | Edit::Rounds(_) => *edit,
     }
 }
 
-/// Counts two answers: the second number is to be at least the first; or both are to be the same refusal.
-fn count_late(tally: &mut Tally, first: Result<u64, u8>, second: Result<u64, u8>) {
+/// The lateness of one job.
+fn one_job(late: u64) -> TaskLateness {
+    TaskLateness { jobs: 1, late }
+}
+
+/// The late cell of the exact answer.
+fn late_cell(plan: &Plan, kind: SimKind, ask: &Ask) -> Result<TaskLateness, Refusal> {
+    Ok(one_job(exact(plan, kind, ask)?[256]))
+}
+
+/// The rounded late weight of a job.
+fn late_job(plan: &Plan, ask: &Ask) -> Result<TaskLateness, Refusal> {
+    Ok(one_job(rounded(plan, ask)?))
+}
+
+/// Counts two answers: of as many jobs the second weight is to be at least the first; or both are to be the same refusal.
+fn count_two(
+    tally: &mut Tally,
+    first: Result<TaskLateness, Refusal>,
+    second: Result<TaskLateness, Refusal>,
+) {
     match (first, second) {
         (Ok(first), Ok(second)) => {
-            tally.count(true, first <= second);
-            tally.count_late(first < second);
+            tally.count(true, first.jobs == second.jobs && first.late <= second.late);
+            tally.count_late(first.late < second.late);
         }
-        (Err(first), Err(second)) => tally.count(false, first == second),
-        _ => tally.count(false, false),
+        _ => tally.count(false, first == second),
     }
 }
 
-/// The late cell of the exact answer, or the refusal's number.
-fn late_cell(plan: &Plan, kind: Kind, ask: &Ask) -> Result<u64, u8> {
-    match exact(plan, kind, ask) {
-        Ok(cells) => Ok(cells[256]),
-        Err(number) => Err(number),
-    }
-}
-
-/// Asks both plans for the late weight of a job in a kind.
-fn ask_exact(tally: &mut Tally, kind: Kind, first: &Plan, second: &Plan, ask: &Ask) {
-    count_late(
-        tally,
-        late_cell(first, kind, ask),
-        late_cell(second, kind, ask),
-    );
-}
-
-/// Asks both plans for the rounded late weight of a job.
-fn ask_rounded(tally: &mut Tally, first: &Plan, second: &Plan, ask: &Ask) {
-    count_late(tally, rounded(first, ask), rounded(second, ask));
-}
-
-/// Asks both plans for the jobs of a round and their late weights.
-fn ask_task(tally: &mut Tally, first: &Plan, second: &Plan, ask: &Ask) {
-    match (task(first, ask), task(second, ask)) {
-        (Ok(one), Ok(other)) => {
-            tally.count(true, one.jobs == other.jobs && one.late <= other.late);
-            tally.count_late(one.late < other.late);
-        }
-        (Err(one), Err(other)) => tally.count(false, one == other),
-        _ => tally.count(false, false),
-    }
-}
-
-impl PairTallies {
-    /// Tallies with no question.
-    pub(crate) fn new() -> PairTallies {
-        PairTallies {
-            edits: Tally::new(),
-            counts: Tally::new(),
-            possible: Tally::new(),
-            heaviest: Tally::new(),
-            rounded: Tally::new(),
-            task: Tally::new(),
+impl Drafts {
+    /// Two empty drafts.
+    fn new() -> Drafts {
+        Drafts {
+            first: Draft::new(),
+            second: Draft::new(),
         }
     }
 
+    /// The plans of both.
+    fn issue(self) -> Plans {
+        let Drafts { first, second } = self;
+        Plans {
+            first: first.issue(),
+            second: second.issue(),
+        }
+    }
+}
+
+impl Plans {
+    /// The drafts of both, to be edited again.
+    fn reopen(self) -> Drafts {
+        let Plans { first, second } = self;
+        Drafts {
+            first: first.reopen(),
+            second: second.reopen(),
+        }
+    }
+
+    /// Asks both for the late weight of a job in a kind.
+    fn ask_exact(&self, tally: &mut Tally, kind: SimKind, ask: &Ask) {
+        let first = late_cell(&self.first, kind, ask);
+        count_two(tally, first, late_cell(&self.second, kind, ask));
+    }
+
+    /// Asks both for the rounded late weight of a job.
+    fn ask_rounded(&self, tally: &mut Tally, ask: &Ask) {
+        let first = late_job(&self.first, ask);
+        count_two(tally, first, late_job(&self.second, ask));
+    }
+
+    /// Asks both for the jobs of a round and their late weights.
+    fn ask_task(&self, tally: &mut Tally, ask: &Ask) {
+        let first = task(&self.first, ask);
+        count_two(tally, first, task(&self.second, ask));
+    }
+}
+
+impl Tallies {
     /// Makes drawn edits on the first draft, and worse ones on the second.
-    fn edit(
-        &mut self,
-        g: &mut Generator,
-        way: Way,
-        look: &Look,
-        first: &mut Draft,
-        second: &mut Draft,
-    ) {
+    fn edit_two(&mut self, g: &mut Generator, way: Way, look: &Look, drafts: &mut Drafts) {
         for step in 0..8u32 {
             let edit = draw_step(g, look, step);
-            let one = edit_draft(first, &edit);
-            let other = edit_draft(second, &worse_edit(g, way, &edit));
-            self.edits.count(one == 0, one == other);
+            let first = edit_draft(&mut drafts.first, &edit);
+            let second = edit_draft(&mut drafts.second, &worse_edit(g, way, &edit));
+            self.edits.count(first.is_ok(), first == second);
         }
     }
 
-    /// Asks drawn questions of both plans.
-    fn ask(&mut self, g: &mut Generator, way: Way, first: &Plan, second: &Plan) {
+    /// Asks drawn questions of both plans; the heaviest ones only where times are longer.
+    fn ask_two(&mut self, g: &mut Generator, way: Way, plans: &Plans) {
         for _ in 0..2u32 {
-            let ask = draw_ask(g, first, 5);
-            ask_exact(&mut self.counts, Kind::Counts, first, second, &ask);
-            ask_exact(&mut self.possible, Kind::Possible, first, second, &ask);
-            if let Way::Longer = way {
-                ask_exact(&mut self.heaviest, Kind::Heaviest, first, second, &ask);
+            let ask = draw_ask(g, &plans.first, 5);
+            for (tally, (kind, _)) in self.exact.iter_mut().zip(KINDS) {
+                if !matches!((way, kind), (Way::Heavier, SimKind::Heaviest)) {
+                    plans.ask_exact(tally, kind, &ask);
+                }
             }
-            ask_rounded(&mut self.rounded, first, second, &ask);
-            ask_task(&mut self.task, first, second, &draw_ask(g, first, 3));
+            plans.ask_rounded(&mut self.rounded, &ask);
+            plans.ask_task(&mut self.task, &draw_ask(g, &plans.first, 3));
         }
     }
 
     /// Runs calls on two new books: edits, questions, edits again, questions again.
-    fn run(&mut self, g: &mut Generator, way: Way) {
+    fn run_two(&mut self, g: &mut Generator, way: Way) {
         let look = draw_look(g);
-        let mut first = Draft::new();
-        let mut second = Draft::new();
-        self.edit(g, way, &look, &mut first, &mut second);
-        let first = first.issue();
-        let second = second.issue();
-        self.ask(g, way, &first, &second);
-        let mut first = first.reopen();
-        let mut second = second.reopen();
-        self.edit(g, way, &look, &mut first, &mut second);
-        self.ask(g, way, &first.issue(), &second.issue());
+        let mut drafts = Drafts::new();
+        self.edit_two(g, way, &look, &mut drafts);
+        let plans = drafts.issue();
+        self.ask_two(g, way, &plans);
+        let mut drafts = plans.reopen();
+        self.edit_two(g, way, &look, &mut drafts);
+        self.ask_two(g, way, &drafts.issue());
     }
 
     /// Makes `runs` runs in each of the two ways.
-    pub(crate) fn run_all(&mut self, g: &mut Generator, runs: u32) {
+    pub(crate) fn run_pairs(&mut self, g: &mut Generator, runs: u32) {
         for _ in 0..runs {
-            self.run(g, Way::Longer);
-            self.run(g, Way::Heavier);
+            self.run_two(g, Way::Longer);
+            self.run_two(g, Way::Heavier);
         }
     }
 }

@@ -2,6 +2,7 @@
 use crate::asks::Ask;
 use crate::generator::Generator;
 use crate::rules::Rule;
+use analysis::TableRule;
 use book::Plan;
 
 /// A table of ranks by place, many of them equal and some at the largest number.
@@ -14,7 +15,7 @@ fn draw_ranks(g: &mut Generator) -> Rule {
             g.below(3) as u64
         };
     }
-    Rule::Table(ranks)
+    Rule::Table(TableRule { ranks })
 }
 
 /// One of the four rules.
@@ -33,13 +34,10 @@ fn draw_place(g: &mut Generator, plan: &Plan) -> u8 {
         return g.below(256) as u8;
     }
     let start = g.below(16) as u8;
-    for by in 0..16u8 {
-        let place = start.saturating_add(by) % 16;
-        if plan.draft().entry(place).is_some() {
-            return place;
-        }
-    }
-    start
+    (0..16u8)
+        .map(|by| start.saturating_add(by) % 16)
+        .find(|place| plan.draft().entry(*place).is_some())
+        .unwrap_or(start)
 }
 
 /// A question on the plan with a mostly small index below `most`, or now and then with any index, or with short sheets.

@@ -1,109 +1,67 @@
 //! The simulator's side: the same edits and the same questions.
-use crate::asks::{Ask, Kind};
+use crate::asks::Ask;
 use crate::edits::Edit;
-use crate::rules::Rule;
 use crate::tables::Table;
-use analysis::Pair;
-use simulator::{SimBook, SimKind, SimLateness, SimPair, SimRule};
+use analysis::{Pair, ShortList};
+use simulator::{SimAsk, SimBook, SimKind, SimLateness, SimPair, SimRefusal};
 
-/// Copies the pairs as pairs of the simulator.
-fn copy_pairs(pairs: &[Pair], copies: &mut [SimPair]) {
-    for (copy, pair) in copies.iter_mut().zip(pairs) {
-        *copy = SimPair {
-            time: pair.time as u32,
-            weight: pair.weight as u32,
-        };
+/// The pair as one of the simulator.
+fn sim_pair(pair: &Pair) -> SimPair {
+    SimPair {
+        time: pair.time.into(),
+        weight: pair.weight.into(),
     }
 }
 
-/// Enters the task with this table.
-fn enter_sim(
-    book: &mut SimBook,
-    place: u8,
-    period: u16,
-    phase: u16,
-    deadline: u8,
-    table: &Table,
-) -> u32 {
-    let pairs = table.pairs();
-    let mut copies = [SimPair { time: 0, weight: 0 }; 17];
-    copy_pairs(pairs, &mut copies);
-    book.enter(
-        place as u32,
-        period as u32,
-        phase as u32,
-        deadline as u32,
-        &copies[0..pairs.len()],
-    )
+/// The pairs of the table as pairs of the simulator.
+fn sim_pairs(table: &Table) -> ShortList<SimPair, 17> {
+    let mut pairs = ShortList::new(SimPair { time: 0, weight: 0 });
+    for pair in table.as_slice() {
+        let _ = pairs.push(sim_pair(pair));
+    }
+    pairs
 }
 
-/// Sets the opening table.
-fn open_sim(book: &mut SimBook, table: &Table) -> u32 {
-    let pairs = table.pairs();
-    let mut copies = [SimPair { time: 0, weight: 0 }; 17];
-    copy_pairs(pairs, &mut copies);
-    book.opening(&copies[0..pairs.len()])
-}
-
-/// Edits the simulator's book, and answers 0 or the refusal's number.
-pub(crate) fn edit_sim(book: &mut SimBook, edit: &Edit) -> u32 {
+/// Edits the simulator's book.
+pub(crate) fn edit_sim(book: &mut SimBook, edit: &Edit) -> Result<(), SimRefusal> {
     match edit {
-        Edit::Enter {
-            place,
-            period,
-            phase,
-            deadline,
-            table,
-        } => enter_sim(book, *place, *period, *phase, *deadline, table),
-        Edit::Withdraw(place) => book.withdraw(*place as u32),
-        Edit::Opening(table) => open_sim(book, table),
-        Edit::Rounds(rounds) => book.rounds(*rounds as u32),
+        Edit::Enter(task) => book.enter(
+            task.place.into(),
+            task.period.into(),
+            task.phase.into(),
+            task.deadline.into(),
+            sim_pairs(&task.table).as_slice(),
+        ),
+        Edit::Withdraw(place) => book.withdraw((*place).into()),
+        Edit::Opening(table) => book.opening(sim_pairs(table).as_slice()),
+        Edit::Rounds(rounds) => book.rounds((*rounds).into()),
     }
 }
 
-/// The simulator's name of a rule.
-pub(crate) fn sim_rule(rule: Rule) -> SimRule {
-    match rule {
-        Rule::Table(ranks) => SimRule::Table(ranks),
-        Rule::Period => SimRule::Period,
-        Rule::Deadline => SimRule::Deadline,
-        Rule::LaterFirst => SimRule::LaterFirst,
-    }
-}
-
-/// The simulator's name of a kind.
-fn sim_kind(kind: Kind) -> SimKind {
-    match kind {
-        Kind::Counts => SimKind::Counts,
-        Kind::Possible => SimKind::Possible,
-        Kind::Heaviest => SimKind::Heaviest,
-    }
-}
-
-/// The exact answer of the simulator, or the refusal's number.
-pub(crate) fn sim_exact(book: &SimBook, kind: Kind, ask: &Ask) -> Result<[u128; 257], u32> {
+/// The exact answer of the simulator.
+pub(crate) fn sim_exact(
+    book: &SimBook,
+    kind: SimKind,
+    ask: &Ask,
+) -> Result<[u128; 257], SimRefusal> {
     let mut cells = [7u128; 257];
     let len = ask.cells();
-    let sheet = &mut cells[0..len];
-    let rule = sim_rule(ask.rule);
-    match book.response(sim_kind(kind), &rule, ask.place as u32, ask.index, sheet) {
-        0 => Ok(cells),
-        number => Err(number),
-    }
+    book.response(kind, &SimAsk::from(*ask), &mut cells[..len])?;
+    Ok(cells)
 }
 
-/// The rounded late weight of the simulator, or the refusal's number; short sheets are refused with 10.
-pub(crate) fn sim_rounded(book: &SimBook, ask: &Ask) -> Result<u128, u32> {
+/// The rounded late weight of the simulator; short sheets are refused.
+pub(crate) fn sim_rounded(book: &SimBook, ask: &Ask) -> Result<u128, SimRefusal> {
     if ask.short {
-        return Err(10);
+        return Err(SimRefusal::Cells);
     }
-    book.rounded(&sim_rule(ask.rule), ask.place as u32, ask.index)
+    book.rounded(&SimAsk::from(*ask))
 }
 
-/// The lateness of a task's round by the simulator, or the refusal's number; short sheets are refused with 10.
-pub(crate) fn sim_task(book: &SimBook, ask: &Ask) -> Result<SimLateness, u32> {
+/// The lateness of a task's round by the simulator; short sheets are refused.
+pub(crate) fn sim_task(book: &SimBook, ask: &Ask) -> Result<SimLateness, SimRefusal> {
     if ask.short {
-        return Err(10);
+        return Err(SimRefusal::Cells);
     }
-    book.task(&sim_rule(ask.rule), ask.place as u32, ask.index)
+    book.task(&SimAsk::from(*ask))
 }

@@ -1,8 +1,17 @@
 //! How many questions of a group were asked, and what came of them.
+use book::Refusal;
+use simulator::SimKind;
+
+/// The kinds of the exact answer, with the names of their groups.
+pub(crate) const KINDS: [(SimKind, &str); 3] = [
+    (SimKind::Counts, "response in counts"),
+    (SimKind::Possible, "response in possible"),
+    (SimKind::Heaviest, "response in heaviest"),
+];
 
 /// The questions of a group: asked, answered and not refused, of these the late ones, passed over as too large, and with
 /// differing answers.
-#[derive(Clone, Copy)]
+#[derive(Clone, Copy, Default)]
 pub struct Tally {
     pub asked: u32,
     pub answered: u32,
@@ -11,34 +20,32 @@ pub struct Tally {
     pub differ: u32,
 }
 
-impl Tally {
-    /// A tally with no question.
-    pub(crate) fn new() -> Tally {
-        Tally {
-            asked: 0,
-            answered: 0,
-            late: 0,
-            skipped: 0,
-            differ: 0,
-        }
-    }
+/// The groups of edits and questions; those of the exact answer by kind, in the order of `KINDS`.
+#[derive(Clone, Copy, Default)]
+pub struct Tallies {
+    pub edits: Tally,
+    pub exact: [Tally; 3],
+    pub rounded: Tally,
+    pub task: Tally,
+}
 
+impl Tally {
     /// Counts a question: whether it was answered, and whether all was as it should be.
     pub(crate) fn count(&mut self, answered: bool, right: bool) {
         self.asked = self.asked.saturating_add(1);
-        if answered {
-            self.answered = self.answered.saturating_add(1);
-        }
-        if !right {
-            self.differ = self.differ.saturating_add(1);
-        }
+        self.answered = self.answered.saturating_add(answered.into());
+        self.differ = self.differ.saturating_add((!right).into());
     }
 
     /// Counts an answer as late, if it is.
     pub(crate) fn count_late(&mut self, late: bool) {
-        if late {
-            self.late = self.late.saturating_add(1);
-        }
+        self.late = self.late.saturating_add(late.into());
+    }
+
+    /// Counts a question by its late weight or its refusal, and whether all was as it should be.
+    pub(crate) fn count_answer(&mut self, late: Result<u64, Refusal>, right: bool) {
+        self.count(late.is_ok(), right);
+        self.count_late(late.is_ok_and(|late| late > 0));
     }
 
     /// Counts a question that was passed over.
@@ -47,23 +54,29 @@ impl Tally {
     }
 }
 
+impl Tallies {
+    /// Counts a question that was passed over in each kind.
+    pub(crate) fn skip_exact(&mut self) {
+        for tally in self.exact.iter_mut() {
+            tally.skip();
+        }
+    }
+}
+
 /// How often each refusal came, by its number.
-#[derive(Clone, Copy)]
+#[derive(Clone, Copy, Default)]
 pub struct Refusals {
     pub times: [u32; 14],
 }
 
 impl Refusals {
-    /// No refusal.
-    pub(crate) fn new() -> Refusals {
-        Refusals { times: [0; 14] }
-    }
-
-    /// Counts a refusal; 0 counts a call that was not refused.
-    pub(crate) fn count(&mut self, number: u8) {
-        if number < 14 {
-            let at = number as usize;
-            self.times[at] = self.times[at].saturating_add(1);
+    /// Counts an answer, if it is a refusal.
+    pub(crate) fn count<T: Drop>(&mut self, answer: Result<T, Refusal>) {
+        if let Err(refusal) = answer {
+            let at = refusal.number() as usize;
+            if at < 14 {
+                self.times[at] = self.times[at].saturating_add(1);
+            }
         }
     }
 }

@@ -1,5 +1,6 @@
 -- Lemmas on the pairs of a table, taken from the front.
-use Rattle.std.proofs.Common.{◌≡◌, ℕ, ◌+◌, ◌<◌, ◌≤◌, min, Bool, true, false, cond, List, length, get_or, drop, sym, ◌∙◌, add-one, arith, drop-cons}
+use Rattle.std.proofs.Common.{◌≡◌, ℕ, ◌+◌, ◌<◌, ◌≤◌, min, Bool, true, false, cond, List, [], ◌∷◌, length, get_or, drop, sym, ◌∙◌, add-one, arith, drop-cons}
+use Rattle.std.specs.List.{fold}
 use lib.Seq.{drop-length}
 use Rattle.simulator.specs.declared.tables.SimPair.{SimPair}
 use Rattle.simulator.specs.Tables.{total, fits, rising}
@@ -42,28 +43,19 @@ pub rising_ends :
     → true ≡ all
 rising_ends least i pairs all h e = rw (h, drop-length pairs) at e
 
--- the sum of the pairs from i on is that of pair i and those from i + 1 on
-pub total_step :
-    (i : ℕ) (pairs : List SimPair)
-    → i < length pairs
-    → total (drop i pairs) ≡ (get_or pairs i none).weight + total (drop (i + 1) pairs)
-total_step i pairs h = rw (add-one i, drop-cons pairs i none h)
-
--- one more weight is added, and the sum stops at the top
-pub total_on :
-    (before after i : ℕ) (pairs : List SimPair) (all top : ℕ)
-    → i < length pairs
-    → after ≡ min (before + (get_or pairs i none).weight) top
-    → min (before + total (drop i pairs)) top ≡ min all top
-    → min (after + total (drop (i + 1) pairs)) top ≡ min all top
-total_on before after i pairs all top h a e = omega (arith, a, e, total_step i pairs h)
-
--- with no pair left the sum is that of all
-pub total_ends :
-    (sum i : ℕ) (pairs : List SimPair) (all top : ℕ)
-    → i ≡ length pairs
+-- weights that are added to a sum which stops at the top add up to what the whole sum stops at
+pub total_fold :
+    (sum : ℕ) (pairs : List SimPair) (top : ℕ)
     → sum ≤ top
-    → min (sum + total (drop i pairs)) top ≡ min all top
-    → sum ≡ min all top
-total_ends sum i pairs all top h low e =
-    let gone : total (drop i pairs) ≡ 0 = rw (h, drop-length pairs) in omega (arith, low, e, gone)
+    → fold (λ (s : ℕ) (pair : SimPair). min (s + pair.weight) top) sum pairs ≡ min (sum + total pairs) top
+total_fold sum [] top low = omega (arith, low)
+total_fold sum (pair ∷ pairs) top low =
+    let more : min (sum + pair.weight) top ≤ top = omega arith in
+    let rest : fold (λ (s : ℕ) (p : SimPair). min (s + p.weight) top) (min (sum + pair.weight) top) pairs ≡ min (min (sum + pair.weight) top + total pairs) top = total_fold (min (sum + pair.weight) top) pairs top more in
+    rest ∙ omega arith
+
+-- weights that are added from nought
+pub total_folds :
+    (pairs : List SimPair) (top : ℕ)
+    → fold (λ (s : ℕ) (pair : SimPair). min (s + pair.weight) top) 0 pairs ≡ min (total pairs) top
+total_folds pairs top = total_fold 0 pairs top (omega arith) ∙ omega arith

@@ -101,6 +101,7 @@ impl SimBook {
     }
 
     /// Puts a task at the place, or answers the first refusal.
+    // Stays: the parts of a task are no struct here: each caller would make it only to have it taken apart, so it is no plainer.
     pub fn enter(
         &mut self,
         place: u32,

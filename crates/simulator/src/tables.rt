@@ -21,11 +21,9 @@ pub struct SimTable {
 fn total_of(pairs: &[SimPair]) -> u32
     ensures { result ≡ min (total pairs.now) 4294967295 }
 {
-    let mut total = 0u32;
-    for pair in pairs {
-        total = total.saturating_add(pair.weight);
-    }
-    total
+    pairs
+        .iter()
+        .fold(0, |total, pair| total.saturating_add(pair.weight))
 }
 
 // Whether the time is `least` to 255, and the weight 1 to 65,535.
@@ -33,10 +31,7 @@ fn fits(least: u32, pair: &SimPair) -> bool
     ensures answer { result ≡ fits least pair.now }
     ensures bound { result ≡ true → pair.now.time ≤ 255 }
 {
-    if pair.time < least || pair.time > 255 {
-        return false;
-    }
-    1 <= pair.weight && pair.weight <= 65_535
+    (least..=255).contains(&pair.time) && (1..=65_535).contains(&pair.weight)
 }
 
 // Whether every pair fits, and each time is above the one before it.
