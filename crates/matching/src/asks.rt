@@ -56,6 +56,7 @@ fn exact_in<W: Weight, F: Fn(W) -> u64>(
 }
 
 /// The number of a possibility.
+// Stays: `texts::Printable::size` answers the same, but with `texts` this program would trust the heap, which it does not use.
 fn possible_size(cell: Possible) -> u64 {
     match cell {
         Possible::No => 0,
