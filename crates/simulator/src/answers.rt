@@ -4,7 +4,7 @@ ghost use Rattle.simulator.specs.Refusals.{number, answer};
 
 use super::asks::SimAsk;
 use super::book::SimBook;
-use super::jobs::{Counted, Job};
+use super::jobs::Job;
 use super::refusals::SimRefusal;
 use super::rules::{SimKind, SimRule};
 
@@ -45,19 +45,12 @@ impl SimLateness {
 }
 
 impl SimBook {
-    // The jobs that are counted for the asked one, or the refusal.
-    fn asked(&self, ask: &SimAsk) -> Result<Counted, SimRefusal>
-        ensures { MatchResult result (λ _. ask.now.place ≤ 15) (λ e. (11 ≤ number e) × (number e ≤ 12)) }
-    {
-        let job = self.job(ask.place, ask.index)?;
-        Ok(self.counted(&ask.rule, job))
-    }
-
     // The exact answer in the kind, or the refusal.
     fn exact(&self, kind: SimKind, ask: &SimAsk) -> Result<[u128; 257], SimRefusal>
         ensures { MatchResult result (λ _. ask.now.place ≤ 15) (λ e. (11 ≤ number e) × (number e ≤ 13)) }
     {
-        let mut counted = self.asked(ask)?;
+        let job = self.job(ask)?;
+        let mut counted = self.counted(&ask.rule, job);
         if !matches!(kind, SimKind::Possible) && counted.whole(kind) >= TOP {
             return Err(SimRefusal::TooHeavy);
         }
@@ -89,8 +82,8 @@ impl SimBook {
     pub fn scenarios(&self, ask: &SimAsk) -> u64
         ensures { 15 < ask.now.place → result ≡ 0 }
     {
-        match self.asked(ask) {
-            Ok(counted) => counted.scenarios(),
+        match self.job(ask) {
+            Ok(job) => self.counted(&ask.rule, job).scenarios(),
             Err(_) => 0,
         }
     }
@@ -120,7 +113,8 @@ impl SimBook {
     pub fn rounded(&self, ask: &SimAsk) -> Result<u128, SimRefusal>
         ensures { MatchResult result (λ _. ask.now.place ≤ 15) (λ e. (11 ≤ number e) × (number e ≤ 12)) }
     {
-        Ok(self.asked(ask)?.late())
+        let job = self.job(ask)?;
+        Ok(self.rounded_job(&ask.rule, job))
     }
 
     /// The lateness of the place's task in the round.
@@ -143,7 +137,8 @@ impl SimBook {
     pub fn totals(&self, ask: &SimAsk) -> Result<SimTotals, SimRefusal>
         ensures { MatchResult result (λ t. (ask.now.place ≤ 15) × (1 ≤ t.tables)) (λ e. (11 ≤ number e) × (number e ≤ 12)) }
     {
-        let mut counted = self.asked(ask)?;
+        let job = self.job(ask)?;
+        let mut counted = self.counted(&ask.rule, job);
         let whole = counted.whole(SimKind::Counts);
         let tables = (counted.jobs.len() as u64).saturating_add(1);
         let cells = counted.run_all(SimKind::Counts);

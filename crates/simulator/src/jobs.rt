@@ -2,6 +2,7 @@
 ghost use Rattle.std.specs.Prelude.{◌≤◌, MatchResult};
 ghost use Rattle.simulator.specs.Refusals.{number};
 
+use super::asks::SimAsk;
 use super::book::{SimBook, SimTask};
 use super::refusals::SimRefusal;
 use super::rules::{Priority, SimRule};
@@ -85,15 +86,15 @@ impl SimBook {
         })
     }
 
-    // Job `index` of the place: refused where there is none, and where it is due after the window.
-    pub(crate) fn job(&self, place: u32, index: u32) -> Result<Job, SimRefusal>
-        ensures { MatchResult result (λ _. place ≤ 15) (λ e. (11 ≤ number e) × (number e ≤ 12)) }
+    // The job that is asked about: refused where there is none, and where it is due after the window.
+    pub(crate) fn job(&self, ask: &SimAsk) -> Result<Job, SimRefusal>
+        ensures { MatchResult result (λ _. ask.now.place ≤ 15) (λ e. (11 ≤ number e) × (number e ≤ 12)) }
     {
-        let task = *self.entry(place).ok_or(SimRefusal::NoJob)?;
-        let since = u64::from(index).saturating_mul(u64::from(task.period));
+        let task = *self.entry(ask.place).ok_or(SimRefusal::NoJob)?;
+        let since = u64::from(ask.index).saturating_mul(u64::from(task.period));
         let release = u64::from(task.phase).saturating_add(since);
         let job = Job {
-            place,
+            place: ask.place,
             task,
             release,
         };
