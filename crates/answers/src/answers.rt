@@ -8,7 +8,7 @@ use std::fmt;
 use texts::write_text;
 
 /// What a call answers, where the answer has one line. It prints that line with its end.
-#[derive(Clone, Copy)]
+#[derive(Clone, Copy, Debug, PartialEq, Eq)]
 pub enum Answer {
     /// The call is done.
     Done,
