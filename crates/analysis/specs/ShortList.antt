@@ -1,5 +1,5 @@
 -- What a contract sees of a list of at most N items.
-use Rattle.std.specs.Prelude.{ℕ, List, [], ◌∷◌, ◌++◌, length, drop, replicate}
+use Rattle.std.specs.Prelude.{ℕ, List, [], ◌∷◌, ◌++◌, drop, replicate}
 
 -- the items, in order, and what fills the places that are not used
 pub record ShortList (T : Type 0) : Type 0 where

@@ -6,6 +6,7 @@ pub trait Ranking {
     /// The rank by place, period, deadline and release.
     ghost ranks: { Self → ℕ → ℕ → ℕ → ℕ → ℕ };
 
+    // Stays: a struct of the four would be packed by each caller to be unpacked by each rule, which reads one or two of them: no plainer.
     fn rank(&self, place: u8, period: u16, deadline: u8, release: u64) -> u64
         ensures { result ≡ ranks self.now place period deadline release };
 }

@@ -9,6 +9,7 @@ pub enum SheetRefusal {
 }
 
 impl SheetRefusal {
+    // Stays: `u8::from` would be no plainer, as the body is one cast and the name `number` says what the u8 is.
     /// The number of the reason.
     pub fn number(self) -> u8
         ensures { result ≡ sheet_number self }

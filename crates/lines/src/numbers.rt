@@ -29,6 +29,7 @@ impl FromField for u64 {
     }
 }
 
+// Stays: one impl over `TryFrom<u64>` for the three would be no plainer: it overlaps with those of kinds and rules, and knows no limit for `reads`.
 impl FromField for u32 {
     ghost reads = { long };
 

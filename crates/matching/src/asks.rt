@@ -1,5 +1,6 @@
-//! Questions that are put to a plan, and their answers in plain numbers.
-ghost use Rattle.std.specs.Prelude.{◌≡◌, ◌≤◌, length};
+//! Questions that are put to a plan, and their answers or refusals.
+ghost use Rattle.std.specs.Prelude.{◌*◌, ◌^◌, ◌<◌, ◌≤◌};
+ghost use Rattle.std.specs.Mem.{type_size};
 
 use crate::rules::Rule;
 use analysis::{Count, Heaviest, Possible, Weight};
@@ -34,55 +35,33 @@ impl From<Ask> for SimAsk {
     }
 }
 
-/// The exact answer in a kind, over two sheets of its elements, of which `size` gives the numbers.
+/// The exact answer in a kind, of whose elements `size` gives the numbers.
 fn exact_in<W: Weight, F: Fn(W) -> u64>(
     plan: &Plan,
     ask: &Ask,
-    answer: &mut [W],
-    work: &mut [W],
     size: F,
 ) -> Result<[u64; 257], Refusal>
-    requires sheets { (length answer.old ≡ 257) × (length work.old ≡ 257) }
+    requires small { 257 * type_size W.row < 2 ^ 63 }
     requires callable { F.IsAlwaysCallable size }
 {
+    let mut answer = [W::unit(); 257];
+    let mut work = [W::unit(); 257];
     let cells = ask.cells();
     let sheet = &mut answer[..cells];
     plan.response(&ask.rule, ask.place, ask.index, sheet, &mut work[..cells])?;
-    let mut plain = [0; 257];
-    for (to, cell) in plain.iter_mut().zip(answer.iter()) {
-        *to = size(*cell);
-    }
-    Ok(plain)
-}
-
-/// The number of a possibility.
-// Stays: `texts::Printable::size` answers the same, but with `texts` this program would trust the heap, which it does not use.
-fn possible_size(cell: Possible) -> u64 {
-    match cell {
-        Possible::No => 0,
-        Possible::Yes => 1,
-    }
+    Ok(answer.map(size))
 }
 
 /// The exact answer: the 257 cells as plain numbers.
-// Stays: arrays of a type parameter in `exact_in` were tried, and the proof did not close: nothing bounds the size of `W`.
 pub(crate) fn exact(plan: &Plan, kind: SimKind, ask: &Ask) -> Result<[u64; 257], Refusal> {
     match kind {
-        SimKind::Counts => {
-            let one = Count::new(1);
-            exact_in(plan, ask, &mut [one; 257], &mut [one; 257], Count::value)
-        }
-        SimKind::Possible => {
-            let yes = Possible::Yes;
-            exact_in(plan, ask, &mut [yes; 257], &mut [yes; 257], possible_size)
-        }
-        SimKind::Heaviest => {
-            let one = Heaviest::new(1);
-            exact_in(plan, ask, &mut [one; 257], &mut [one; 257], Heaviest::value)
-        }
+        SimKind::Counts => exact_in::<Count, _>(plan, ask, Count::value),
+        SimKind::Possible => exact_in::<Possible, _>(plan, ask, |cell| cell as u64),
+        SimKind::Heaviest => exact_in::<Heaviest, _>(plan, ask, Heaviest::value),
     }
 }
 
+// Stays: `rounded` and `task` differ in the question, which one function would take as a closure over two sheets, plan and ask: no plainer.
 /// The rounded late weight of a job.
 pub(crate) fn rounded(plan: &Plan, ask: &Ask) -> Result<u64, Refusal> {
     let mut answer = [Count::new(1); 257];

@@ -78,11 +78,7 @@ fn share(lateness: &TaskLateness) -> u64 {
     if whole == 0 {
         return 0;
     }
-    lateness
-        .late
-        .saturating_mul(10_000)
-        .saturating_add(whole - 1)
-        / whole
+    lateness.late.saturating_mul(10_000).div_ceil(whole)
 }
 
 /// Prints the late share of a task's jobs in the seventh of eight rounds, beside the published one, in ten-thousandths.

@@ -73,10 +73,8 @@ fn print_skipped(rt: &HostRuntime, tallies: &MatchTallies) -> io::Result<()> {
 
 /// Prints how often each refusal came.
 fn print_refusals(rt: &HostRuntime, refusals: &Refusals) -> io::Result<()> {
-    for (number, times) in refusals.times.iter().enumerate() {
-        if number > 0 {
-            println!(rt; "refused with {number}: {times} times")?;
-        }
+    for (number, times) in refusals.times.iter().enumerate().skip(1) {
+        println!(rt; "refused with {number}: {times} times")?;
     }
     Ok(())
 }

@@ -32,14 +32,14 @@ pub struct Plans {
     second: Plan,
 }
 
-/// The last time of the table, 255 where there is none.
-fn last_time(table: &Table) -> u8 {
-    table.as_slice().last().map_or(255, |pair| pair.time)
+/// The last time of the table, where it has a pair.
+fn last_time(table: &Table) -> Option<u8> {
+    table.as_slice().last().map(|pair| pair.time)
 }
 
 /// The table with longer times.
 fn longer(g: &mut Generator, table: &Table) -> Table {
-    let room = 255 - last_time(table);
+    let room = last_time(table).map_or(0, |last| u8::MAX - last);
     let mut by: u8 = 0;
     let mut later = empty_table();
     for pair in table.as_slice() {
@@ -56,7 +56,7 @@ fn heavier(g: &mut Generator, table: &Table) -> Table {
     let mut later = empty_table();
     for pair in table.as_slice() {
         let held = pair.weight.saturating_add(moved);
-        moved = if pair.time == last {
+        moved = if last == Some(pair.time) {
             0
         } else {
             g.below(held as u32) as u16

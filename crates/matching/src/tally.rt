@@ -73,9 +73,8 @@ impl Refusals {
     /// Counts an answer, if it is a refusal.
     pub(crate) fn count<T: Drop>(&mut self, answer: Result<T, Refusal>) {
         if let Err(refusal) = answer {
-            let at = refusal.number() as usize;
-            if at < 14 {
-                self.times[at] = self.times[at].saturating_add(1);
+            if let Some(times) = self.times.get_mut(usize::from(refusal.number())) {
+                *times = times.saturating_add(1);
             }
         }
     }

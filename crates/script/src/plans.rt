@@ -91,6 +91,7 @@ fn respond_in(
     }
 }
 
+// Stays: `rounded` and `task` differ in the question, which one function would take as a closure over two sheets and a rule: no plainer.
 /// The answer to the question for the rounded late weight of a job.
 fn rounded(plan: &Plan, asked: Question) -> Answer
     ensures { answer_text result ≡ rounded_text (rounded_answer (rule_rank asked.rule) (plan_book plan.now) asked.place asked.number 257 257) }

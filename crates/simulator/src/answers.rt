@@ -78,6 +78,7 @@ impl SimBook {
             .fold(SimLateness { jobs: 0, late: 0 }, SimLateness::with_job)
     }
 
+    // Stays: a question that is refused draws no scenario, so 0 is its number; a `Result` would let a call fail that cannot.
     /// How many scenarios the exact answer of the job draws, at most 2^64 − 1; 0 where the question is refused.
     pub fn scenarios(&self, ask: &SimAsk) -> u64
         ensures { 15 < ask.now.place → result ≡ 0 }

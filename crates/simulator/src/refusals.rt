@@ -2,6 +2,7 @@
 ghost use Rattle.std.specs.Prelude.{◌≡◌};
 ghost use Rattle.simulator.specs.Refusals.{number};
 
+// Stays: a second enum beside that of `book`, since the simulator shares no code with what it is compared with (a rule of the project).
 /// Why a call is refused; each reason has the number by which it is told.
 #[derive(Clone, Copy, PartialEq, Eq)]
 pub enum SimRefusal {
@@ -34,6 +35,7 @@ pub enum SimRefusal {
 }
 
 impl SimRefusal {
+    // Stays: `u32::from` would be no plainer, as the body is one cast and the name `number` says what the u32 is.
     /// The number of the reason.
     pub fn number(self) -> u32
         ensures { result ≡ number self }

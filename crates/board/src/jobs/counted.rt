@@ -76,6 +76,7 @@ impl Asked {
 }
 
 impl<'a, R: Ranking> CountedJobs<'a, R> {
+    // Stays: as a chain over all ticks and places it would be no plainer, and would visit each tick that `next_release` passes over.
     /// Looks at one slot: a place of the tick or, after the sixteen places, the job itself; then goes on to the next.
     fn look(&mut self) -> Option<Job>
         requires { self.old.tick < due (job_of self.old.asked.now.job) }

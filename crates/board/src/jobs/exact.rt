@@ -10,6 +10,7 @@ use crate::jobs::asked::Asked;
 use crate::jobs::walk::Unsettled;
 use analysis::{Ranking, SheetRefusal, Weight, total};
 
+// Stays: the sheet is no array of 257 cells, for the reason at `begin` in walk.rt.
 /// Gathers the cells after the deadline in cell 256, and leaves those between nought.
 fn gather_late<W: Weight>(sheet: &mut [W], deadline: u8)
     requires { (length sheet.old ≡ 257) × (deadline ≤ 254) }

@@ -20,6 +20,7 @@ use analysis::{
 /// The share of 1 in a rounded answer.
 const WHOLE: u64 = 1048576;
 
+// Stays: as an array of 257 cells (tried in `analysis`) the sheet asks for a bound on the size of a kind's element, which callers would owe.
 /// Lays the opening table out on a sheet of 257 cells, from `x` at the time 0.
 pub(crate) fn begin<W: Weight>(sheet: &mut [W], x: W, opening: &[Pair]) -> Result<(), SheetRefusal>
     requires { length sheet.old ≡ 257 }
@@ -84,6 +85,7 @@ impl Settle<Count> for Rounded {
 }
 
 impl Asked {
+    // Stays: the sheet is no array of 257 cells, for the reason at `begin`.
     /// Walks over the counted jobs on a sheet of 257 cells, from `x` at the time 0.
     pub(crate) fn walk<W: Weight, R: Ranking, S: Settle<W>>(
         &self,

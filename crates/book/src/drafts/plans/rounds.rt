@@ -72,6 +72,7 @@ impl Plan {
 }
 
 impl Plan {
+    // Stays: `task` and `rounded` share their first and last step; one function of both would take a closure, with the clauses of each on it.
     /// How many jobs of the task at a place are released in a round, and the sum of their rounded late weights. The first 257 cells of
     /// both sheets are left nought.
     pub fn task<R: Ranking>(
