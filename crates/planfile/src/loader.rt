@@ -1,8 +1,8 @@
 //! Loading a plan file: a whole new draft, or none.
-ghost use Rattle.std.specs.Prelude.{◌≡◌, ◌<◌, length, take, None, Ok, Err, MatchResult, slice_index_or};
+ghost use Rattle.std.specs.Prelude.{◌≡◌, ◌<◌, length, take, None, MatchResult, slice_index_or};
 ghost use Rattle.book.specs.Refusals.{number};
 ghost use Rattle.book.specs.Drafts.{draft_book};
-ghost use Rattle.planfile.specs.Faults.{told, outcome, fault_in};
+ghost use Rattle.planfile.specs.Faults.{outcome, fault_in};
 ghost use Rattle.planfile.specs.Contents.{blank};
 ghost use Rattle.planfile.specs.Bodies.{wrong_in, refusal_offset, bodies_entered};
 ghost use Rattle.planfile.specs.Loads.{loaded, fault_of, book_or};
@@ -55,9 +55,10 @@ impl Bodies<'_> {
     }
 }
 
-/// The draft of the file's tasks.
-pub(crate) fn draft_of(file: &[u8]) -> Result<Draft, Fault>
-    ensures { MatchResult result (λ d. loaded file.now ≡ Ok (draft_book d)) (λ e. loaded file.now ≡ Err (told e)) }
+/// Makes a whole new draft of the file's tasks, or leaves the old one.
+pub fn load(draft: &mut Draft, file: &[u8]) -> Result<(), Fault>
+    ensures answers { fault_in result ≡ fault_of (loaded file.now) }
+    ensures leaves { draft_book draft.new ≡ book_or (loaded file.now) (draft_book draft.old) }
 {
     let contents = Contents::read(file)?;
     // Each body lies in the file, so that this fault never comes.
@@ -66,25 +67,11 @@ pub(crate) fn draft_of(file: &[u8]) -> Result<Draft, Fault>
         fields: Fields { file, missing },
         entries: contents.entries.as_slice(),
     };
-    let mut draft = Draft::new();
-    bodies.enter(&mut draft)?;
+    let mut next = Draft::new();
+    bodies.enter(&mut next)?;
     if contents.end < file.len() {
         return Err(Fault::file(FileFault::Trailing, contents.end));
     }
-    Ok(draft)
-}
-
-/// Makes a whole new draft of the file's tasks, or leaves the old one.
-pub fn load(draft: &mut Draft, file: &[u8]) -> Result<(), Fault>
-    ensures answers { fault_in result ≡ fault_of (loaded file.now) }
-    ensures leaves { draft_book draft.new ≡ book_or (loaded file.now) (draft_book draft.old) }
-{
-    // A `?` here gets no proof: the check is not told which modules hold a task's types, and calls that a bug of its own.
-    match draft_of(file) {
-        Ok(next) => {
-            *draft = next;
-            Ok(())
-        }
-        Err(fault) => Err(fault),
-    }
+    *draft = next;
+    Ok(())
 }

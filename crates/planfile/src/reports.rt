@@ -6,10 +6,10 @@ ghost use Rattle.planfile.specs.Pages.{text, padded};
 ghost use Rattle.planfile.specs.Reports.{fault_line, place_line, place_lines, book_text, report_text};
 
 use crate::faults::Fault;
-use crate::loader::draft_of;
+use crate::loader::load;
 use crate::page::Page;
 use analysis::{Count, DeadlineRule};
-use book::Plan;
+use book::{Draft, Plan};
 
 /// Writes the line of an occupied place: its jobs in round 0 and the sum of their late weights under the deadline rule, or why there is
 /// no answer.
@@ -66,8 +66,9 @@ pub fn report(file: &[u8], page: &mut [u8; 512]) -> usize
     ensures answers { result ≡ length (report_text file.now) }
     ensures short { result ≤ 256 }
 {
-    let written = match draft_of(file) {
-        Ok(draft) => plan_page(&draft.issue()),
+    let mut draft = Draft::new();
+    let written = match load(&mut draft, file) {
+        Ok(()) => plan_page(&draft.issue()),
         Err(fault) => fault_page(fault),
     };
     written.copy_to(page)
