@@ -1,10 +1,15 @@
 -- What a contract sees of a list of at most N items.
-use Rattle.std.specs.Prelude.{ℕ, List, [], ◌∷◌, ◌++◌, drop, replicate}
+use Rattle.std.specs.Prelude.{◌≡◌, ℕ, ◌≤◌, List, [], ◌∷◌, ◌++◌, drop, replicate}
+use Rattle.std.proofs.Common.{arith}
 
 -- the items, in order, and what fills the places that are not used
 pub record ShortList (T : Type 0) : Type 0 where
   pub items : List T
   pub spare : List T
+
+-- a length that is not above n is not above that of n places
+pub within_places : (len n m : ℕ) → len ≤ n → m ≡ n → len ≤ m
+within_places len n m h e = omega (arith, h, e)
 
 module _ {T : Type 0} where
   -- a list of no item, whose n places hold x

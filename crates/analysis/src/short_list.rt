@@ -14,8 +14,8 @@ pub struct ShortList<T, const N: usize> {
 
 impl<T, const N: usize> Model for ShortList<T, N> {
     ghost use Rattle.std.specs.Prelude.{◌≡◌, ◌≤◌, ◌++◌, length, take, drop};
-    ghost use Rattle.std.proofs.Common.{arith, take-append-drop, length-take-le};
-    ghost use Rattle.analysis.specs.ShortList.{ShortList as Items};
+    ghost use Rattle.std.proofs.Common.{take-append-drop, length-take-le};
+    ghost use Rattle.analysis.specs.ShortList.{ShortList as Items, within_places};
 
     ghost Value = { Items T };
 
@@ -27,7 +27,7 @@ impl<T, const N: usize> Model for ShortList<T, N> {
 
     ghost inverse_ok = { λ s h i. record {
       places = take-append-drop s.len s.places i;
-      len = length-take-le s.len s.places (omega (arith, h.0, h.1)) i;
+      len = length-take-le s.len s.places (within_places s.len _ _ h.0 h.1) i;
     } };
 }
 

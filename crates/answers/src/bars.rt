@@ -9,7 +9,7 @@ use texts::write_text;
 fn write_repeated(byte: u8, count: u128, out: &mut Vec<u8>) -> Result<(), AllocError>
     ensures { OnOk result (out.new.items ≡ out.old.items ++ replicate count byte) }
 {
-    // Stays: a length is a u128, as a size may be above the largest one, and `resize` and `repeat_n` take a usize.
+    // Stays: no plainer otherwise: a length is a u128, as a size may be above the largest one, and `resize` and `repeat_n` take a usize.
     for _ in 0..count {
         out.push(byte)?;
     }

@@ -12,7 +12,7 @@ use texts::{write_field, write_text};
 fn write_places(draft: &Draft, out: &mut Vec<u8>) -> Result<(), AllocError>
     ensures { OnOk result (out.new.items ≡ out.old.items ++ places_text (draft_book draft.now).places) }
 {
-    // Stays: the loop runs over the places themselves, of which the draft is asked, and counts nothing beside.
+    // Stays: no plainer otherwise: the loop runs over the places themselves, of which the draft is asked, and counts nothing beside.
     for place in 0..16 {
         write_place(place, draft.entry(place), out)?;
     }

@@ -37,7 +37,7 @@ fn write_time_bar<W: Printable>(
     write_bar(size, most, out)
 }
 
-// Stays: one function for this and `write_times` would take a closure that allocates, with clauses longer than the loop.
+// Stays: no plainer otherwise: one function for this and `write_times` would take a closure that allocates, with clauses longer than the loop.
 /// Writes the lines of the times of a sheet.
 fn write_time_bars<W: Printable>(
     sheet: &[W],

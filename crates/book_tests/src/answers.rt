@@ -1,7 +1,6 @@
 //! What the tests share.
 use analysis::{Count, DeadlineRule, Pair};
-use book::{Draft, Plan, Refusal};
-use std::process::Abort;
+use book::{Plan, Refusal};
 
 /// Half of the weight at each of two times.
 pub(crate) const HALVES: [Pair; 2] = [Pair { time: 1, weight: 1 }, Pair { time: 3, weight: 1 }];
@@ -9,13 +8,6 @@ pub(crate) const HALVES: [Pair; 2] = [Pair { time: 1, weight: 1 }, Pair { time: 
 /// The answer, or the number of its refusal.
 pub(crate) fn told<T>(answer: Result<T, Refusal>) -> Result<T, u8> {
     answer.map_err(Refusal::number)
-}
-
-/// A draft of one task, at place 0, with period 4 and deadline 2.
-pub(crate) fn one_task(rt: &impl Abort) -> Draft {
-    let mut draft = Draft::new();
-    assert_eq!(rt; told(draft.enter(0, 4, 0, 2, &HALVES)), Ok(()));
-    draft
 }
 
 /// What `rounded` answers under the deadline rule.

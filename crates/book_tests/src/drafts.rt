@@ -1,5 +1,5 @@
 //! Edits of a draft.
-use super::answers::{HALVES, late, one_task, told};
+use super::answers::{HALVES, late, told};
 use analysis::Pair;
 use book::Draft;
 
@@ -81,7 +81,8 @@ fn periods_fit_together(rt: HostRuntime) {
 
 #[test]
 fn a_refused_edit_leaves_the_draft(rt: HostRuntime) {
-    let mut draft = one_task(&rt);
+    let mut draft = Draft::new();
+    assert_eq!(rt; told(draft.enter(0, 4, 0, 2, &HALVES)), Ok(()));
     assert_eq!(rt; told(draft.enter(0, 4, 0, 255, &HALVES)), Err(4));
     assert_eq!(rt; told(draft.withdraw(16)), Err(1));
     assert_eq!(rt; told(draft.withdraw(1)), Err(8));
@@ -95,7 +96,8 @@ fn a_refused_edit_leaves_the_draft(rt: HostRuntime) {
 
 #[test]
 fn withdraw_empties_a_place(rt: HostRuntime) {
-    let mut draft = one_task(&rt);
+    let mut draft = Draft::new();
+    assert_eq!(rt; told(draft.enter(0, 4, 0, 2, &HALVES)), Ok(()));
     assert_eq!(rt; told(draft.enter(15, 4, 0, 2, &HALVES)), Ok(()));
     assert_eq!(rt; told(draft.withdraw(15)), Ok(()));
     assert_eq!(rt; told(draft.withdraw(15)), Err(8));

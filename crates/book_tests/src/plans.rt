@@ -1,5 +1,5 @@
 //! Questions on a plan.
-use super::answers::{HALVES, all_are, late, one_task, told};
+use super::answers::{HALVES, all_are, late, told};
 use analysis::{Count, DeadlineRule, Pair, PeriodRule, Ranking};
 use book::{Draft, Plan};
 
@@ -78,7 +78,8 @@ fn jobs_lie_in_the_window(rt: HostRuntime) {
 // Of the opening work and job 0, nothing or 2 ticks are left when job 1 is released.
 #[test]
 fn opening_work_delays_jobs(rt: HostRuntime) {
-    let mut draft = one_task(&rt);
+    let mut draft = Draft::new();
+    assert_eq!(rt; told(draft.enter(0, 4, 0, 2, &HALVES)), Ok(()));
     assert_eq!(rt; told(draft.rounds(2)), Ok(()));
     let plan = draft.issue();
     assert_eq!(rt; late(&plan, 0, 0), Ok(524_288));
@@ -92,7 +93,8 @@ fn opening_work_delays_jobs(rt: HostRuntime) {
 
 #[test]
 fn rounds_have_jobs(rt: HostRuntime) {
-    let mut draft = one_task(&rt);
+    let mut draft = Draft::new();
+    assert_eq!(rt; told(draft.enter(0, 4, 0, 2, &HALVES)), Ok(()));
     assert_eq!(rt; told(draft.rounds(2)), Ok(()));
     let plan = draft.issue();
     for (place, round, answer) in [
@@ -110,7 +112,8 @@ fn rounds_have_jobs(rt: HostRuntime) {
 // job of place 1 waits for both.
 #[test]
 fn rules_decide_who_waits(rt: HostRuntime) {
-    let mut draft = one_task(&rt);
+    let mut draft = Draft::new();
+    assert_eq!(rt; told(draft.enter(0, 4, 0, 2, &HALVES)), Ok(()));
     assert_eq!(rt;
         told(draft.enter(1, 8, 0, 6, &[Pair { time: 4, weight: 1 }])),
         Ok(())

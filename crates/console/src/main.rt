@@ -31,7 +31,7 @@ fn run(rt: &HostRuntime, chart: bool) -> anyhow::Result<()> {
     let mut book = ScriptBook::new();
     let mut reading = Reading::new(chart);
     let mut out = Vec::new(rt.alloc());
-    // Stays: `lines` would refuse bytes that are no text and hold a line of any length; for chunks of bytes std has no iterator.
+    // Stays: no plainer otherwise: `lines` would refuse bytes that are no text and hold a line of any length; for chunks of bytes std has no iterator.
     for _ in 0..u64::MAX {
         let n = input.read(&mut chunk)?;
         if n == 0 {

@@ -68,6 +68,7 @@ fn complete(mut fields: Fields, call: Call) -> Option<Call>
     }
 }
 
+// Stays: each of these readers takes fields of its own, by the one method `read`; a table of fields would say less than the lines do.
 /// Reads `enter PLACE PERIOD PHASE DEADLINE TIME:WEIGHT ..`.
 fn enter(mut fields: Fields) -> Option<Call>
     ensures { result ≡ enter_of (left fields.entry) }

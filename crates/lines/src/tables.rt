@@ -16,7 +16,7 @@ pub struct PairList {
 
 impl PairList {
     /// An empty list.
-    pub fn new() -> PairList
+    fn new() -> PairList
         ensures { result ≡ kept [] }
     {
         PairList {
@@ -25,7 +25,7 @@ impl PairList {
     }
 
     /// Adds a pair, unless seventeen are held.
-    pub fn push(&mut self, pair: Pair)
+    fn push(&mut self, pair: Pair)
         ensures { self.new ≡ with_pair self.old pair }
     {
         let _ = self.held.push(pair);

@@ -49,7 +49,11 @@ fn exact_in<W: Weight, F: Fn(W) -> u64>(
     let cells = ask.cells();
     let sheet = &mut answer[..cells];
     plan.response(&ask.rule, ask.place, ask.index, sheet, &mut work[..cells])?;
-    Ok(answer.map(size))
+    let mut plain = [0; 257];
+    for (to, cell) in plain.iter_mut().zip(&answer) {
+        *to = size(*cell);
+    }
+    Ok(plain)
 }
 
 /// The exact answer: the 257 cells as plain numbers.

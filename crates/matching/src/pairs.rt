@@ -66,6 +66,7 @@ fn heavier(g: &mut Generator, table: &Table) -> Table {
     later
 }
 
+// Stays: `Way` is drawn and compared too, so a closure in its place would need a name beside it: no plainer.
 /// A worse table of equal total, or the same table where it is not lawful.
 fn worse_table(g: &mut Generator, way: Way, table: &Table) -> Table {
     if TimeTable::new(table.as_slice()).is_none() {

@@ -27,6 +27,7 @@ pub struct Asked {
     pub sim: SimBook,
 }
 
+// Stays: no `From`, since neither type is of this crate.
 /// The lateness as one of the simulator.
 fn sim_lateness(lateness: TaskLateness) -> SimLateness {
     SimLateness {
@@ -74,6 +75,7 @@ impl Asked {
         }
     }
 
+    // Stays: the three questions differ in what is asked on each side and in how ours is turned; one function would take three closures.
     /// Asks for the exact answer in a kind.
     pub(crate) fn exact(&self, kind: SimKind, ask: &Ask) -> Compared<[u64; 257]> {
         let ours = exact(&self.plan, kind, ask);

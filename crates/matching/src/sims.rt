@@ -5,6 +5,7 @@ use crate::tables::Table;
 use analysis::{Pair, ShortList};
 use simulator::{SimAsk, SimBook, SimKind, SimLateness, SimPair, SimRefusal};
 
+// Stays: no `From`, since neither type is of this crate.
 /// The pair as one of the simulator.
 fn sim_pair(pair: &Pair) -> SimPair {
     SimPair {
@@ -50,6 +51,7 @@ pub(crate) fn sim_exact(
     Ok(cells)
 }
 
+// Stays: this and `sim_task` differ in the question and its answer's type; one function would take the question as a closure, no plainer.
 /// The rounded late weight of the simulator; short sheets are refused.
 pub(crate) fn sim_rounded(book: &SimBook, ask: &Ask) -> Result<u128, SimRefusal> {
     if ask.short {

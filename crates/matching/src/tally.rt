@@ -24,6 +24,7 @@ pub struct Tally {
 #[derive(Clone, Copy, Default)]
 pub struct Tallies {
     pub edits: Tally,
+    // Stays: one tally for each kind, in the order of `KINDS`; three by name would be counted and printed one by one, no plainer.
     pub exact: [Tally; 3],
     pub rounded: Tally,
     pub task: Tally,

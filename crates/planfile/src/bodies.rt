@@ -23,7 +23,7 @@ fn read_pairs(fields: &Fields, at: usize, count: usize) -> Result<ShortList<Pair
     ensures { MatchResult result (λ ps. ps.items ≡ pairs fields.now.file.now at count) (λ e. (length fields.now.file.now < at + 3 * count) × (e ≡ fields.now.missing)) }
 {
     let mut held = ShortList::new(Pair { time: 0, weight: 0 });
-    // Stays: pair `i` is read at its offset by the reader that answers the fault; chunks of the file would go past that reader.
+    // Stays: pair `i` is read at its offset by the reader that answers the fault: chunks would go past it, and offsets by `step_by` are no plainer.
     for i in 0..count {
         let pair = fields.pair(at + 3 * i)?;
         let Ok(()) = held.push(pair) else {
@@ -42,7 +42,7 @@ impl Body {
         let phase = fields.word(at + 2)?;
         let deadline = fields.byte(at + 4)?;
         let named = fields.byte(at + 5)? as usize;
-        // Stays: the book refuses a table of more than 16 pairs as an empty one, so an Option would be a case that each use takes away.
+        // Stays: no plainer otherwise: the book refuses a table of more than 16 pairs as an empty one, so an Option would be a case that each use takes away.
         let count = if named <= 16 { named } else { 0 };
         let table = read_pairs(fields, at + 6, count)?;
         Ok(Body {
@@ -75,7 +75,7 @@ impl Bodies<'_> {
             let first = entry.start as usize + 6;
             let named = self.fields.byte(entry.start as usize + 5)? as usize;
             let mut low: u16 = 0;
-            // Stays: pair `i` is read at its offset by the reader that answers the fault; chunks of the file would go past that reader.
+            // Stays: pair `i` is read at its offset by the reader that answers the fault: chunks would go past it, and offsets by `step_by` are no plainer.
             for i in 0..named {
                 let pair = self.fields.pair(first + 3 * i)?;
                 if (pair.time as u16) < low || pair.weight == 0 {

@@ -107,7 +107,7 @@ impl Contents {
             entries: ShortList::new(blank),
             end: 1 + 5 * count,
         };
-        // Stays: entry `i` is read at its offset by the reader that answers the fault; chunks of the file would go past that reader.
+        // Stays: entry `i` is read at its offset by the reader that answers the fault: chunks would go past it, and offsets by `step_by` are no plainer.
         for i in 0..count {
             let entry = read.next_entry(file, 1 + 5 * i)?;
             let Ok(()) = read.entries.push(entry) else {

@@ -50,7 +50,7 @@ impl Fault {
         Fault { offset, ..self }
     }
 
-    // Stays: docs/PLANFILE.md fixes the numbers of the layers and of the faults, and the report prints them.
+    // Stays: an enum would be no plainer here and in `number`: docs/PLANFILE.md fixes the numbers of the layers and of the faults, and the report prints them.
     /// The layer: 1 for the file, 2 for the book.
     pub fn layer(&self) -> u8
         ensures { result ≡ (told self.now).layer }

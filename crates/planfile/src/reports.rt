@@ -37,14 +37,14 @@ fn plan_page(plan: &Plan) -> Page
 {
     let mut page = Page::new();
     page.write(b"place jobs late\n");
-    // Stays: the loop runs over the places themselves, of which the plan is asked, and counts nothing beside.
+    // Stays: no plainer otherwise: the loop runs over the places themselves, of which the plan is asked, and counts nothing beside.
     for place in 0..16 {
         write_place(&mut page, plan, place);
     }
     page
 }
 
-// Stays: the contract of `write!` says nothing of when it fails, and a report cannot fail.
+// Stays: no `Display`, as the proof would not close: the contract of `write!` says nothing of when it fails, and a report cannot fail.
 /// The page of a fault.
 fn fault_page(fault: Fault) -> Page
     ensures writes { text result ≡ fault_line (told fault) }

@@ -10,6 +10,6 @@ const LONGEST: usize = 16384;
 #[derive(Drop)]
 pub struct LineBuffer {
     bytes: ArrayVec<u8, LONGEST>,
-    // Stays: it guards no value, as the bytes that are kept are read in both cases; an enum would hold them twice.
+    // Stays: no plainer otherwise: it guards no value, as the bytes that are kept are read in both cases; an enum would hold them twice.
     over: bool,
 }

@@ -18,6 +18,7 @@ use lines::{Call, Kind, Rule};
 use std::alloc::AllocError;
 use texts::Printable;
 
+// Stays: `chart` and `out` are no struct, since `out` is the caller's and calls on a draft take it without `chart`: no plainer.
 /// Writes the answer on a sheet, and its chart where one is wanted.
 fn write_drawn<W: Printable>(sheet: &[W], chart: bool, out: &mut Vec<u8>) -> Result<(), AllocError>
     ensures { OnOk result (out.new.items ≡ out.old.items ++ drawn chart W.size W.text (cells W.ops sheet.now)) }

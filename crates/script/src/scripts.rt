@@ -3,7 +3,7 @@ use book::{Draft, Plan};
 
 mod steps;
 
-// Stays: moved by value through each line, since `issue` and `reopen` take the book itself; behind `&mut` it would be taken out and put back.
+// Stays: no plainer otherwise: moved by value through each line, since `issue` and `reopen` take the book itself; behind `&mut` it would be taken out and put back.
 /// The one book of a script: a draft, or the plan that it issued.
 #[derive(Drop)]
 pub enum ScriptBook {

@@ -80,6 +80,7 @@ impl SimTask {
 
 impl SimBook {
     // The tick at which the window ends: the hyperperiod times the rounds.
+    // Stays: with no hyperperiod the window has no tick; an Option would be taken apart to 0 at each use, no plainer.
     pub(crate) fn window(&self) -> u64 {
         self.hyperperiod().map_or(0, |length| {
             u64::from(length).saturating_mul(u64::from(self.rounds))

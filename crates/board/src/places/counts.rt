@@ -17,7 +17,7 @@ fn common(a: u16, b: u16) -> Option<u16>
 impl Entries {
     /// The hyperperiod; none where it is above 4,096.
     pub fn hyperperiod(&self) -> Option<u16>
-        ensures { MatchOption result (4096 < hyperperiod (places self.now)) (λ h. (h ≡ hyperperiod (places self.now)) × (h ≤ 4096)) }
+        ensures { MatchOption result (hyperperiod (places self.now) ≡ 4097) (λ h. (h ≡ hyperperiod (places self.now)) × (h ≤ 4096)) }
     {
         let mut h = 1;
         for held in &self.at {

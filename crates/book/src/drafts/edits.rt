@@ -23,6 +23,7 @@ impl Draft {
         }
     }
 
+    // Stays: the parts of a task are parameters, as they come unchecked and a `Task` is lawful; a struct of them would be no plainer.
     /// Enters a task at a place, in the place of what stood there.
     pub fn enter(
         &mut self,

@@ -43,7 +43,7 @@ impl Plan {
 }
 
 // Stays: each question says of both sheets what it leaves, since they are the caller's slices (no heap, fixed memory), and no type of ours can hold that.
-// Stays: place, index and the sheets are parameters, since a struct of them would be made at each call only to be taken apart in it.
+// Stays: place, index and the sheets are parameters, here, in `response` and in `task`, as clients write these calls out: a struct would be one name more, no plainer.
 impl Plan {
     /// The rounded late weight of job `index` of the task at a place, over 1,048,576. The first 257 cells of both sheets are left nought.
     pub fn rounded<R: Ranking>(

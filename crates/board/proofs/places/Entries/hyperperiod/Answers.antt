@@ -18,7 +18,7 @@ returns-in_err-h c =
     let at = entries_at e i c.held-item.result (Some c.in-Some.task) (omega arith) c.in-Some.is in
     let inv = c.loop-held.invariant in
     let none = hyper_none ps (λ k l u d. c.in_err-h.ensures k l u (inv.2 k d) (this_divides ps i c.loop-held.h (entry_of c.in-Some.task) lt at inv.2 inv.3 k d)) in
-    rw c.from_residual.ensures (omega arith)
+    rw c.from_residual.ensures none
 
 pub loop-held-preserved : goal.loop-held-preserved
 loop-held-preserved c =
