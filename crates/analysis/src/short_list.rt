@@ -4,7 +4,7 @@ ghost use Rattle.analysis.specs.ShortList.{no_items, with_item};
 
 use std::marker::Model;
 
-// Stays: an array with a length, since the kit's `ArrayVec` is not `Copy`, as time tables, tasks and the calls of a script are (fixed memory).
+// Stays: an array with a length, since the kit's `ArrayVec` is not `Copy`, as the calls of a script and what they hold are (fixed memory).
 /// A list of at most `N` items, which lie in the value itself.
 #[derive(Clone, Copy)]
 pub struct ShortList<T, const N: usize> {

@@ -4,10 +4,7 @@ ghost use Rattle.board.specs.Pairs.{lawful, no_work};
 ghost use Rattle.board.specs.Tables.{table_pairs};
 
 use crate::tables::TimeTable;
-use analysis::{Pair, ShortList};
-
-/// No work: time 0 with weight 1.
-const NO_WORK: Pair = Pair { time: 0, weight: 1 };
+use analysis::Pair;
 
 /// Whether the pairs make a time table.
 fn is_lawful(pairs: &[Pair]) -> bool
@@ -36,24 +33,28 @@ impl TimeTable {
         if !is_lawful(pairs) {
             return None;
         }
-        let held = ShortList::from_slice(pairs, NO_WORK)?;
-        Some(TimeTable { held })
+        let mut held = [Pair { time: 0, weight: 0 }; 16];
+        held[..pairs.len()].copy_from_slice(pairs);
+        Some(TimeTable {
+            held,
+            len: pairs.len() as u8,
+        })
     }
 
     /// The table of no work: time 0 with weight 1.
     pub fn no_work() -> TimeTable
         ensures { table_pairs result ≡ no_work }
     {
-        let Some(held) = ShortList::from_slice(&[NO_WORK], NO_WORK) else {
-            unreachable!()
-        };
-        TimeTable { held }
+        TimeTable {
+            held: [Pair { time: 0, weight: 1 }; 16],
+            len: 1,
+        }
     }
 
     /// The pairs of the table.
     pub fn pairs(&self) -> &[Pair]
         ensures { result.now ≡ table_pairs self.now }
     {
-        self.held.as_slice()
+        &self.held[0..self.len as usize]
     }
 }
