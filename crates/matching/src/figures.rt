@@ -4,7 +4,7 @@ use crate::edits::{Edit, Entering, edit_draft};
 use crate::rules::Rule;
 use crate::tables::{Table, add_pair, empty_table};
 use book::{Draft, Plan, Refusal, TaskLateness};
-use std::io;
+use std::{fmt, io};
 
 /// The times from `low` up to but without `end`, each of weight 1.
 fn uniform(low: u8, end: u8) -> Table {
@@ -72,23 +72,37 @@ fn parted_plan() -> Result<Plan, Refusal> {
     Ok(draft.issue())
 }
 
-/// The late share of the jobs in ten-thousandths, rounded up.
-fn share(lateness: &TaskLateness) -> u64 {
-    let whole = lateness.jobs as u64 * 1_048_576;
-    if whole == 0 {
-        return 0;
+/// A share in ten-thousandths, printed as a decimal number.
+#[derive(Clone, Copy)]
+struct Share(u64);
+
+impl Share {
+    /// The late share of the jobs, rounded up.
+    fn of(lateness: &TaskLateness) -> Share {
+        let whole = u64::from(lateness.jobs) * 1_048_576;
+        if whole == 0 {
+            return Share(0);
+        }
+        Share(lateness.late.saturating_mul(10_000).div_ceil(whole))
     }
-    lateness.late.saturating_mul(10_000).div_ceil(whole)
 }
 
-/// Prints the late share of a task's jobs in the seventh of eight rounds, beside the published one, in ten-thousandths.
+impl fmt::Display for Share {
+    fn fmt<W: fmt::Write>(&self, f: &mut fmt::Formatter<W>) -> fmt::Result {
+        let whole = self.0 / 10_000;
+        let rest = self.0 % 10_000;
+        write!(f, "{whole}.{rest:04}")
+    }
+}
+
+/// Prints the late share of a task's jobs in the seventh of eight rounds, beside the published one.
 fn print_share(
     rt: &HostRuntime,
     plan: &Plan,
     rule: Rule,
     name: &str,
     place: u8,
-    published: u64,
+    published: Share,
 ) -> io::Result<()> {
     let ask = Ask {
         rule,
@@ -96,16 +110,10 @@ fn print_share(
         index: 6,
         short: false,
     };
-    let whole = published / 10_000;
-    let rest = published % 10_000;
     match task(plan, &ask) {
         Ok(lateness) => {
-            let late = share(&lateness);
-            let late_whole = late / 10_000;
-            let late_rest = late % 10_000;
-            println!(rt;
-                "{name}, place {place}: late {late_whole}.{late_rest:04}, published {whole}.{rest:04}"
-            )
+            let late = Share::of(&lateness);
+            println!(rt; "{name}, place {place}: late {late}, published {published}")
         }
         Err(refusal) => {
             let number = refusal.number();
@@ -118,12 +126,12 @@ fn print_share(
 fn print_plan(rt: &HostRuntime, plan: Result<Plan, Refusal>, last: u8) -> io::Result<()> {
     match plan {
         Ok(plan) => {
-            print_share(rt, &plan, Rule::Period, "period rule", 0, 0)?;
-            print_share(rt, &plan, Rule::Period, "period rule", 1, 0)?;
-            print_share(rt, &plan, Rule::Period, "period rule", last, 3852)?;
-            print_share(rt, &plan, Rule::Deadline, "deadline rule", 0, 224)?;
-            print_share(rt, &plan, Rule::Deadline, "deadline rule", 1, 169)?;
-            print_share(rt, &plan, Rule::Deadline, "deadline rule", last, 81)
+            print_share(rt, &plan, Rule::Period, "period rule", 0, Share(0))?;
+            print_share(rt, &plan, Rule::Period, "period rule", 1, Share(0))?;
+            print_share(rt, &plan, Rule::Period, "period rule", last, Share(3852))?;
+            print_share(rt, &plan, Rule::Deadline, "deadline rule", 0, Share(224))?;
+            print_share(rt, &plan, Rule::Deadline, "deadline rule", 1, Share(169))?;
+            print_share(rt, &plan, Rule::Deadline, "deadline rule", last, Share(81))
         }
         Err(refusal) => {
             let number = refusal.number();
