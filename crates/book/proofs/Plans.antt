@@ -1,16 +1,19 @@
 -- What a plan says of the task at a place, as its questions read it.
-use Rattle.std.proofs.Common.{◌≡◌, ℕ, ◌/◌, suc, refl, Err, ◌+◌, ◌-◌, ◌*◌, ◌<◌, ◌≤◌, true, length, get_or, Some, None, sym, ap, ◌∙◌, subst, arith}
-use Rattle.std.proofs.lemmas.Bool.{leb-true}
+use Rattle.std.proofs.Common.{◌≡◌, ℕ, ◌/◌, suc, refl, cond, Ok, Err, Result, ◌+◌, ◌-◌, ◌*◌, ◌<◌, ◌≤◌, true, length, get_or, Some, None, sym, ap, ◌∙◌, subst, arith}
+use Rattle.std.proofs.lemmas.Bool.{and_from, leb-true, le-leb, cond-true}
 use Rattle.board.specs.declared.tasks.Task.{Task}
 use Rattle.book.specs.declared.drafts.plans.Plan.{Plan}
 use Rattle.book.specs.declared.batches.Batch.{Batch}
 use Rattle.book.specs.Drafts.{plan_book}
 use Rattle.board.specs.Model.{Entry, Book, hyperperiod, window}
-use Rattle.board.specs.Jobs.{Rule, due, release_of}
+use Rattle.scenarios.specs.Questions.{Question}
+use Rattle.scenarios.specs.Walks.{rounded_late as late_of_question}
+use Rattle.board.specs.Jobs.{Rule, Job, due, release_of}
+use Rattle.board.specs.Questions.{question_of}
 use Rattle.board.specs.Standing.{stands}
 use Rattle.book.specs.Batches.{IsBatch, Ready}
 use Rattle.board.specs.Places.{entry_of}
-use Rattle.book.specs.Asks.{rounded_late, task_of, ReleasedIn, round_jobs, job_at, late_sum}
+use Rattle.book.specs.Asks.{long, rounded_of, rounded_late, task_of, ReleasedIn, round_jobs, job_at, late_sum}
 use Rattle.board.proofs.Records.{entries_lawful, entries_long}
 use Rattle.board.proofs.At.{Ranges, ranges_at}
 use Rattle.board.proofs.Standing.{stands_true}
@@ -33,6 +36,17 @@ module _ (p : Plan) (place : ℕ) (e : Entry) (is : get_or (plan_book p).places 
 
   pub plan_released : (round : ℕ) → ReleasedIn (plan_book p) e round (round * round_jobs (plan_book p) e) (round_jobs (plan_book p) e)
   plan_released round = released_in (plan_book p) place e round p.draft.sound is
+
+-- two sheets that are long enough
+pub long_told : {X : Type 0} (m n : ℕ) (x : Result X ℕ) → 257 ≤ m → 257 ≤ n → x ≡ cond (long m n) x (Err 10)
+long_told m n x lm ln = sym (cond-true (long m n) x (Err 10) (and_from _ _ (le-leb 257 m lm) (le-leb 257 n ln)))
+
+-- the late weight of the job that a question finds
+pub late_told : (rule : Rule) (b : Book) (x : Result Job ℕ) (j : Job) (q : Question) → Ok j ≡ x → q ≡ question_of rule b j
+    → (m n late : ℕ) → late ≡ late_of_question q → 257 ≤ m → 257 ≤ n → Ok late ≡ cond (long m n) (rounded_of rule b x) (Err 10)
+unfolding rounded_late
+late_told rule b x j q found puts m n late is lm ln =
+    ap Ok (is ∙ ap late_of_question puts) ∙ ap (rounded_of rule b) found ∙ long_told m n (rounded_of rule b x) lm ln
 
 -- one more job of a round
 pub late_more : (rule : Rule) (b : Book) (place : ℕ) (e : Entry) (from k late one : ℕ) → from ≤ k → late ≡ late_sum rule b place e from (k - from) → one ≡ rounded_late rule b (job_at place e k) → late + one ≡ late_sum rule b place e from (k + 1 - from)

@@ -1,5 +1,5 @@
 -- The jobs of one task that a round releases.
-use Rattle.std.proofs.Common.{◌≡◌, ℕ, zero, suc, ◌+◌, ◌-◌, ◌*◌, ◌/◌, ◌%◌, ◌<◌, ◌≤◌, true, false, eqb, ltb, List, [], ◌∷◌, get_or, Some, None, Err, Option, sym, refl, ap, ◌∙◌, subst, le_trans, mul-le-mul_right, mul_assoc, add-mul, one-mul, zero-mul, arith}
+use Rattle.std.proofs.Common.{◌≡◌, ℕ, zero, suc, ◌+◌, ◌-◌, ◌*◌, ◌/◌, ◌%◌, ◌<◌, ◌≤◌, true, false, eqb, ltb, List, [], ◌∷◌, get_or, Some, None, Err, Option, sym, refl, ap, ◌∙◌, subst, le_trans, mul-le-mul_right, mul_assoc, add-mul, mul-le-mul, one-mul, zero-mul, arith}
 use Rattle.std.proofs.lemmas.Nat.Gcd.{dvd_of_mod-eq-zero}
 use Rattle.std.proofs.Math.Nat.{div-mul_cancel}
 use Rattle.std.proofs.lemmas.Bool.{and_parts, and_from, and_right, eqb-true, leb-true, le-leb, lt-leb, lt-ltb, cond-true, cond-false}
@@ -50,6 +50,12 @@ in_round b place e ok is =
       high = le_trans (jobs_at b.places place h e is) (limits b.places b.rounds ok).jobs_high;
       fills = fills;
     }
+
+-- the number of the last job of a round is small
+pub last_small : (round n rounds : ℕ) → round < rounds → rounds ≤ 8 → n ≤ 64 → round * n + n - 1 ≤ 512
+last_small round n rounds l r h =
+    let m : round * n ≤ 7 * 64 = mul-le-mul {n₁ = round} {m₁ = n} {n₂ = 7} {m₂ = 64} (omega arith) h in
+    omega arith
 
 -- the number of jobs in a round, from the hyperperiod h that the code has computed
 pub record Sized (b : Book) (e : Entry) (h : ℕ) : Type 0 where

@@ -4,7 +4,7 @@ ghost use Rattle.analysis.specs.Cells.{cells};
 ghost use Rattle.kinds.specs.Counts.{count_ops};
 ghost use Rattle.book.specs.Drafts.{plan_book};
 ghost use Rattle.board.specs.Jobs.{asked};
-ghost use Rattle.board.specs.Found.{job_of};
+ghost use Rattle.board.specs.Found.{job_of, Stands};
 ghost use Rattle.book.specs.Granted.{granted_job, AskedIn};
 ghost use Rattle.book.specs.Asks.{granted, rounded_answer, swept};
 ghost use Rattle.book.specs.Refusals.{told};
@@ -19,6 +19,7 @@ impl Plan {
     /// Job `index` of the task at a place, if the window has it and its deadline.
     pub(super) fn job(&self, place: u8, index: u32) -> Result<Asked, Refusal>
         ensures finds { granted_job result ≡ granted (plan_book self.now) (asked (plan_book self.now) place index) }
+        ensures stands { IfOk result (λ a. Stands (plan_book self.now).places (job_of a.job)) }
         ensures in_book { IfOk result (AskedIn (plan_book self.now)) }
     {
         let task = self.draft.entry(place).ok_or(Refusal::NoJob)?;

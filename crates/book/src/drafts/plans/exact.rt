@@ -4,7 +4,7 @@ ghost use Rattle.analysis.specs.Cells.{cells};
 ghost use Rattle.book.specs.Drafts.{plan_book};
 ghost use Rattle.book.specs.Asks.{light, granted, response_answer, filled, swept, answered};
 ghost use Rattle.board.specs.Jobs.{asked};
-ghost use Rattle.board.specs.Found.{job_of};
+ghost use Rattle.board.specs.Found.{job_of, Stands};
 ghost use Rattle.book.specs.Granted.{granted_job, AskedIn};
 ghost use Rattle.book.specs.Refusals.{told};
 
@@ -23,6 +23,7 @@ impl Plan {
         index: u32,
     ) -> Result<Asked, Refusal>
         ensures finds { granted_job result ≡ light W.ops (R.Ranking.ranks rule.now) (plan_book self.now) (granted (plan_book self.now) (asked (plan_book self.now) place index)) }
+        ensures stands { IfOk result (λ a. Stands (plan_book self.now).places (job_of a.job)) }
         ensures in_book { IfOk result (AskedIn (plan_book self.now)) }
     {
         let job = self.job(place, index)?;
