@@ -16,7 +16,7 @@ fn common(a: u16, b: u16) -> Option<u16>
 
 impl Entries {
     /// The hyperperiod; none where it is above 4,096.
-    pub fn hyperperiod(&self) -> Option<u16>
+    pub fn checked_hyperperiod(&self) -> Option<u16>
         ensures { MatchOption result (hyperperiod (places self.now) ≡ 4097) (λ h. (h ≡ hyperperiod (places self.now)) × (h ≤ 4096)) }
     {
         let mut h = 1;
@@ -26,6 +26,13 @@ impl Entries {
             }
         }
         Some(h)
+    }
+
+    /// The hyperperiod, or 4,097 where it is above 4,096.
+    pub fn hyperperiod(&self) -> u16
+        ensures { result ≡ hyperperiod (places self.now) }
+    {
+        self.checked_hyperperiod().unwrap_or(4097)
     }
 
     /// How many jobs are released in `h` ticks, where each period divides `h`.

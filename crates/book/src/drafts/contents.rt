@@ -34,9 +34,6 @@ impl Draft {
     pub(crate) fn hyperperiod(&self) -> u16
         ensures { result ≡ hyperperiod (draft_book self.now).places }
     {
-        let Some(hyper) = self.entries.hyperperiod() else {
-            unreachable!()
-        };
-        hyper
+        self.entries.hyperperiod()
     }
 }

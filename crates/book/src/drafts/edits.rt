@@ -65,7 +65,7 @@ impl Draft {
         ensures answers { answer result ≡ bound_refusal (places next) }
         ensures leaves { draft_book self.new ≡ (if nat_eq (bound_refusal (places next)) 0 then with_places (draft_book self.old) (places next) else draft_book self.old) }
     {
-        let Some(hyper) = next.hyperperiod() else {
+        let Some(hyper) = next.checked_hyperperiod() else {
             return Err(Refusal::Hyperperiod);
         };
         if next.jobs(hyper) > 64 {

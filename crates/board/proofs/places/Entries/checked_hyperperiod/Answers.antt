@@ -6,8 +6,8 @@ use Rattle.board.specs.Model.{divided}
 use Rattle.board.proofs.Records.{entries_at}
 use Rattle.board.proofs.Steps.{bare}
 use Rattle.board.proofs.Searches.{this_divides, rest_decides, hyper_none, hyper_is, Holds, multiple}
-use Rattle.board.proofs.places.Entries.hyperperiod.Goals as goal
-use Rattle.board.proofs.places.Entries.hyperperiod.Goals.{in-Some+in_ok-h, in_default}
+use Rattle.board.proofs.places.Entries.checked_hyperperiod.Goals as goal
+use Rattle.board.proofs.places.Entries.checked_hyperperiod.Goals.{in-Some+in_ok-h, in_default}
 
 pub returns-in_err-h : goal.returns-in_err-h
 returns-in_err-h c =

@@ -1,7 +1,7 @@
 use Rattle.std.proofs.Common.{◌≡◌, ℕ, ◌%◌, ◌≤◌, true, drop}
 use Rattle.board.specs.Model.{divided}
 use Rattle.board.specs.Places.{places}
-use Rattle.board.proofs.places.Entries.hyperperiod.Given as goal
+use Rattle.board.proofs.places.Entries.checked_hyperperiod.Given as goal
 
 abbrev pub invariant-loop-held : goal.invariant-loop-held
 invariant-loop-held l =
