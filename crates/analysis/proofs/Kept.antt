@@ -67,6 +67,10 @@ le_through a b m e l = omega arith
 stopped : (n k : ℕ) → n ≤ k → stop n ≤ k
 stopped n k h = omega arith
 
+-- rounding leaves at most the whole weight, divided and rounded up
+pub rounded_whole : (by : ℕ) (f : ℕ → Count) → (tail count_ops (rounded_off by f) 0).value ≤ up (tail count_ops f 0).value by
+rounded_whole by f = le_same _ _ (rounding_divides by f 0)
+
 -- A BOUND ON THE WHOLE WEIGHT
 -- `tail ops f 0` computes to 257 sums, which omega does not take in: these lemmas carry a bound m on it from step to step.
 -- no tail passes it

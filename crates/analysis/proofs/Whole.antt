@@ -5,7 +5,7 @@ use Rattle.theory.specs.Semiring.{Ops, Laws}
 use Rattle.analysis.specs.Cells.{span, tail, over, passed, total, share, arriving, first, fresh, beyond, added}
 use Rattle.analysis.specs.Kept.{PassingKeeps, AddingMultiplies}
 use Rattle.analysis.specs.declared.pair.Pair.{Pair}
-use Rattle.analysis.proofs.Steps.{span_split}
+use Rattle.analysis.proofs.Steps.{sum_nought_right, span_split, span_first}
 use Rattle.analysis.proofs.Totals.{over_sum, over_product, over_nought, product_sum}
 
 module _ {K : Type 0} (o : Ops K) where
@@ -87,6 +87,14 @@ module _ {K : Type 0} {o : Ops K} {least : K → K → Type 0} (laws : Laws o le
 
   span_one : (f : ℕ → K) (a : ℕ) → span o f a 1 ≡ f a
   span_one f a = laws.sum_nought (f (a + 0)) ∙ ap f (add-zero a)
+
+  lone_span : (f : ℕ → K) (n : ℕ) → ((k : ℕ) → k < n → f (0 + 1 + k) ≡ o.nought) → span o f 0 (1 + n) ≡ f 0
+  lone_span f n e =
+      span_first laws f 0 n ∙ ap (o.sum (f 0)) (span_nought f (0 + 1) n e) ∙ sum_nought_right laws (f 0)
+
+  -- where cells 1 to 256 are nought, cell 0 is the whole weight
+  pub lone_whole : (f : ℕ → K) → ((k : ℕ) → 0 < k → k ≤ 256 → f k ≡ o.nought) → tail o f 0 ≡ f 0
+  lone_whole f e = lone_span f 256 (λ k l. e (0 + 1 + k) (omega arith) (omega arith))
 
   -- PASSING
   -- the cells from the emptied ones on: only what lies beyond

@@ -31,3 +31,7 @@ tails_to ops n f k = span ops f k (n - k)
 -- the cells below low are multiplied
 abbrev pub scaled : {K : Type 0} → Ops K → ℕ → K → (ℕ → K) → ℕ → K
 scaled ops low by f = joint (λ k. ops.product (f k) by) f low
+
+-- each cell g places lower
+unfoldable pub fallen : {K : Type 0} → ℕ → (ℕ → K) → ℕ → K
+fallen g f k = f (k + g)

@@ -19,3 +19,7 @@ module _ {T : Type 0} where
   -- one more item, in the next place
   abbrev pub with_item : ShortList T → T → ShortList T
   with_item s x = record { items = s.items ++ x ∷ []; spare = drop 1 s.spare }
+
+  -- no item any more; what the places held stays in them
+  abbrev pub emptied : ShortList T → ShortList T
+  emptied s = record { items = []; spare = s.items ++ s.spare }

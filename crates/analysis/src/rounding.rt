@@ -31,6 +31,7 @@ fn take_differences(part: &mut [Count], by: u64)
 }
 
 /// Divides every tail by `by`, rounded up (0 for the divisor 0), and makes each cell up to 256 the difference of its tail and the next.
+#[tactic(auto, using(crate::proofs::Fronts::rounded_done))]
 pub fn round_tails(sheet: &mut [Count], by: u64) -> Result<(), SheetRefusal>
     ensures { Done count_ops result sheet.old sheet.new (rounded_off by) }
 {

@@ -1,6 +1,6 @@
 //! Lists of a few items.
 ghost use Rattle.std.specs.Prelude.{◌≡◌, ◌<◌, ◌≤◌, length, MatchOption, MatchResult};
-ghost use Rattle.analysis.specs.ShortList.{no_items, with_item};
+ghost use Rattle.analysis.specs.ShortList.{no_items, with_item, emptied};
 
 use std::marker::Model;
 
@@ -56,6 +56,13 @@ impl<T: Copy, const N: usize> ShortList<T, N> {
         self.places[self.len] = item;
         self.len += 1;
         Ok(())
+    }
+
+    /// Takes all items out, at the same cost however many there are.
+    pub fn clear(&mut self)
+        ensures { self.new ≡ emptied self.old }
+    {
+        self.len = 0;
     }
 
     /// The list of these items, whose other places hold the blank, where there is room for all.

@@ -1,4 +1,4 @@
-ghost use Rattle.std.specs.Prelude.{◌≡◌, length};
+ghost use Rattle.std.specs.Prelude.{◌≡◌, ◌≤◌, length};
 ghost use Rattle.analysis.specs.Cells.{cells, tailed, cleared};
 ghost use Rattle.analysis.specs.Inner.{tails_to};
 ghost use Rattle.analysis.specs.Sheets.{Done};
@@ -20,6 +20,7 @@ pub fn gather_tails<W: Weight>(part: &mut [W])
 }
 
 /// Makes each cell up to 256 its tail: the sum of the cells from it to 256.
+#[tactic(auto, using(crate::proofs::Fronts::tailed_done))]
 pub fn tails<W: Weight>(sheet: &mut [W]) -> Result<(), SheetRefusal>
     ensures { Done W.ops result sheet.old sheet.new (tailed W.ops) }
 {
@@ -28,11 +29,19 @@ pub fn tails<W: Weight>(sheet: &mut [W]) -> Result<(), SheetRefusal>
     Ok(())
 }
 
+// Makes each cell up to 256 nought.
+fn clear_cells<W: Weight>(sheet: &mut [W])
+    requires { 257 ≤ length sheet.old }
+    ensures { cells W.ops sheet.new ≡ cleared W.ops (cells W.ops sheet.old) }
+{
+    erase(&mut sheet[..CELLS]);
+}
+
 /// Makes the first 257 cells nought.
 pub fn clear<W: Weight>(sheet: &mut [W]) -> Result<(), SheetRefusal>
     ensures { Done W.ops result sheet.old sheet.new (cleared W.ops) }
 {
     long_enough(sheet)?;
-    erase(&mut sheet[..CELLS]);
+    clear_cells(sheet);
     Ok(())
 }
