@@ -1,9 +1,7 @@
--- A quotient that is rounded up, a number in four columns, and the largest of the cells.
-use Rattle.std.proofs.Common.{◌≡◌, ℕ, zero, suc, ◌+◌, ◌-◌, ◌*◌, ◌/◌, ◌<◌, ◌≤◌, ◌^◌, false, List, [], length, take, fold, decimal, max, sym, refl, ap, ◌∙◌, ⊎_elim, arith}
+-- A quotient that is rounded up, and the largest of the cells.
+use Rattle.std.proofs.Common.{◌≡◌, ℕ, zero, suc, ◌+◌, ◌-◌, ◌*◌, ◌/◌, ◌<◌, ◌≤◌, List, length, take, fold, max, sym, refl, ap, ◌∙◌, ⊎_elim, arith}
 use native.Mathlib.Nat.{div-zero}
 use Rattle.std.specs.Int.{div_ceil}
-use Rattle.std.specs.Fmt.{padded_integral, format_spec}
-use Rattle.std.proofs.Padding.{padded_integral_right}
 use Rattle.std.proofs.Math.Nat.{div-eq_of_lt-le}
 use Rattle.std.proofs.lemmas.Grind.{div_ceil_times}
 use Rattle.std.proofs.lemmas.Bool.{cases_lt}
@@ -12,7 +10,7 @@ use Rattle.std.proofs.lemmas.List.Sums.{fold_more}
 use Rattle.theory.specs.Semiring.{Ops}
 use Rattle.theory.specs.Rounded.{up}
 use Rattle.analysis.specs.Cells.{cells}
-use Rattle.answers.specs.Charts.{largest, padded}
+use Rattle.answers.specs.Charts.{largest}
 
 -- the quotient for a divisor above 0
 pub up_is_ceil : (number by : ℕ) → 0 < by → div_ceil number by ≡ up number by
@@ -27,10 +25,6 @@ up_is_ceil number by above =
 pub up_by_nought : (number by : ℕ) → by ≡ 0 → 0 ≡ up number by
 unfolding up
 up_by_nought number by e = sym (ap (λ d. (number + (d - 1)) / d) e ∙ div-zero _)
-
--- what `{:>4}` writes of a number
-pub padded_is : (n : ℕ) → padded_integral (format_spec 32 3 0 4 (2 ^ 64 - 1)) false [] (decimal n) ≡ padded n
-padded_is n = padded_integral_right (format_spec 32 3 0 4 (2 ^ 64 - 1)) (decimal n) refl refl (omega arith) (omega arith) (omega arith)
 
 -- the largest of a sheet's first n sizes; the cells past its end have the size 0
 pub largest_is : {K : Type 0} (ops : Ops K) (size : K → ℕ) (xs : List K) (n : ℕ) → size ops.nought ≡ 0 → fold (λ most x. max most (size x)) 0 (take n xs) ≡ largest size (cells ops xs) n

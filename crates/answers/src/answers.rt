@@ -1,11 +1,11 @@
 //! The answers that have one line.
 ghost use Rattle.std.specs.Prelude.{◌≡◌, ◌++◌, Some, OnOk};
-ghost use Rattle.answers.specs.Answers.{answer_text};
+ghost use Rattle.answers.specs.Answers.{task_text, answer_text};
 
 use book::{Refusal, TaskLateness};
 use std::alloc::AllocError;
 use std::fmt;
-use texts::write_text;
+use texts::{write_ending, write_field, write_text};
 
 /// What a call answers, where the answer has one line. It prints that line with its end.
 #[derive(Clone, Copy, Debug, PartialEq, Eq)]
@@ -24,6 +24,14 @@ pub enum Answer {
     ReopenFirst,
     /// The line with this number cannot be read.
     Unreadable(u64),
+}
+
+/// Writes the jobs of a task and their late weight.
+fn write_task(task: &TaskLateness, out: &mut Vec<u8>) -> Result<(), AllocError>
+    ensures { OnOk result (out.new.items ≡ out.old.items ++ task_text task.now) }
+{
+    write_field(b"jobs ", task.jobs as u64, out)?;
+    write_ending(b" late ", task.late, out)
 }
 
 impl fmt::Display for Answer {
@@ -47,7 +55,14 @@ impl Answer {
     pub fn write(&self, out: &mut Vec<u8>) -> Result<(), AllocError>
         ensures { OnOk result (out.new.items ≡ out.old.items ++ answer_text self.now) }
     {
-        let text = self.to_string(*out.allocator())?;
-        write_text(text.as_bytes(), out)
+        match self {
+            Answer::Done => write_text(b"ok\n", out),
+            Answer::Refused(refusal) => write_ending(b"refused ", refusal.number() as u64, out),
+            Answer::Late(weight) => write_ending(b"late ", *weight, out),
+            Answer::Task(task) => write_task(task, out),
+            Answer::IssueFirst => write_text(b"not now: issue it first\n", out),
+            Answer::ReopenFirst => write_text(b"not now: reopen it first\n", out),
+            Answer::Unreadable(line) => write_ending(b"unreadable: ", *line, out),
+        }
     }
 }

@@ -2,6 +2,7 @@
 ghost use Rattle.std.specs.Prelude.{◌≡◌, ◌++◌, replicate, OnOk};
 ghost use Rattle.answers.specs.Charts.{padded, bar_length, bar};
 
+use itoa::Buffer;
 use std::alloc::AllocError;
 use texts::write_text;
 
@@ -20,8 +21,10 @@ fn write_repeated(byte: u8, count: u128, out: &mut Vec<u8>) -> Result<(), AllocE
 pub(crate) fn write_padded(time: usize, out: &mut Vec<u8>) -> Result<(), AllocError>
     ensures { OnOk result (out.new.items ≡ out.old.items ++ padded time) }
 {
-    let text = format!(in *out.allocator(); "{time:>4}")?;
-    write_text(text.as_bytes(), out)
+    let mut buffer = Buffer::new();
+    let digits = buffer.format(time as u64).as_bytes();
+    write_repeated(b' ', 4usize.saturating_sub(digits.len()) as u128, out)?;
+    write_text(digits, out)
 }
 
 /// The length of a bar: 50 times the size over the largest size, rounded up; 0 where the largest is 0.

@@ -7,14 +7,16 @@ ghost use Rattle.answers.specs.Books.{pair_text, table_text, entry_text, place_t
 use analysis::Pair;
 use book::Task;
 use std::alloc::AllocError;
-use texts::write_text;
+use texts::{write_field, write_number, write_text};
 
 /// Writes a blank, a time and its weight.
 fn write_pair(pair: &Pair, out: &mut Vec<u8>) -> Result<(), AllocError>
     ensures { OnOk result (out.new.items ≡ out.old.items ++ pair_text pair.now) }
 {
-    let text = format!(in *out.allocator(); " {}:{}", pair.time, pair.weight)?;
-    write_text(text.as_bytes(), out)
+    out.push(b' ')?;
+    write_number(pair.time as u64, out)?;
+    out.push(b':')?;
+    write_number(pair.weight as u64, out)
 }
 
 /// Writes the pairs of a table.
@@ -40,17 +42,11 @@ pub(crate) fn write_table(label: &[u8], pairs: &[Pair], out: &mut Vec<u8>) -> Re
 fn write_entry(place: u8, task: &Task, out: &mut Vec<u8>) -> Result<(), AllocError>
     ensures { OnOk result (out.new.items ≡ out.old.items ++ entry_text place (entry_of task.now)) }
 {
-    let Task {
-        period,
-        phase,
-        deadline,
-        table,
-    } = task;
-    let text = format!(in *out.allocator();
-        "{place} period {period} phase {phase} deadline {deadline}"
-    )?;
-    write_text(text.as_bytes(), out)?;
-    write_table(b" table", table.pairs(), out)
+    write_number(place as u64, out)?;
+    write_field(b" period ", task.period as u64, out)?;
+    write_field(b" phase ", task.phase as u64, out)?;
+    write_field(b" deadline ", task.deadline as u64, out)?;
+    write_table(b" table", task.table.pairs(), out)
 }
 
 /// Writes the line of a place, where there is a task at it.

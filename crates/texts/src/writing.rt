@@ -2,6 +2,7 @@
 ghost use Rattle.std.specs.Prelude.{◌≡◌, ◌++◌, decimal, OnOk};
 ghost use Rattle.texts.specs.Texts.{field, ending};
 
+use itoa::Buffer;
 use std::alloc::AllocError;
 
 /// Writes a text after what is written.
@@ -15,8 +16,8 @@ pub fn write_text(text: &[u8], out: &mut Vec<u8>) -> Result<(), AllocError>
 pub fn write_number(n: u64, out: &mut Vec<u8>) -> Result<(), AllocError>
     ensures { OnOk result (out.new.items ≡ out.old.items ++ decimal n) }
 {
-    let text = n.to_string(*out.allocator())?;
-    write_text(text.as_bytes(), out)
+    let mut digits = Buffer::new();
+    write_text(digits.format(n).as_bytes(), out)
 }
 
 /// Writes a label and a number.
