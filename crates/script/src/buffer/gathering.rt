@@ -3,7 +3,7 @@ ghost use Rattle.std.specs.Prelude.{◌≡◌, [], length, ◌==◌};
 ghost use Rattle.script.specs.Buffers.{gather, gathered, added, told};
 
 use crate::buffer::LineBuffer;
-use arrayvec::ArrayVec;
+use analysis::ShortList;
 use lines::{Line, read_line};
 
 impl LineBuffer {
@@ -12,7 +12,7 @@ impl LineBuffer {
         ensures { gathered result ≡ gather [] }
     {
         LineBuffer {
-            bytes: ArrayVec::new(),
+            bytes: ShortList::new(0),
             over: false,
         }
     }
@@ -21,7 +21,7 @@ impl LineBuffer {
     pub fn push(&mut self, byte: u8)
         ensures { gathered self.new ≡ added (gathered self.old) byte }
     {
-        if self.bytes.try_push(byte).is_err() {
+        if self.bytes.push(byte).is_err() {
             self.over = true;
         }
     }
@@ -38,7 +38,7 @@ impl LineBuffer {
     pub fn is_empty(&self) -> bool
         ensures { result ≡ (length (gathered self.now).text == 0) }
     {
-        self.bytes.is_empty()
+        self.bytes.as_slice().is_empty()
     }
 
     /// Reads the line that is gathered.
