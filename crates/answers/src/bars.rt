@@ -28,6 +28,7 @@ pub(crate) fn write_padded(time: usize, out: &mut Vec<u8>) -> Result<(), AllocEr
 }
 
 /// The length of a bar: 50 times the size over the largest size, rounded up; 0 where the largest is 0.
+#[tactic(auto, using(crate::proofs::Barred::up_is_ceil, crate::proofs::Barred::up_by_nought))]
 fn bar_length(size: u64, most: u64) -> u128
     ensures { result ≡ bar_length most size }
 {

@@ -33,6 +33,7 @@ impl FromField for u64 {
 impl FromField for u32 {
     ghost reads = { long };
 
+    #[tactic(auto, using(crate::proofs::Numbered::smaller, crate::proofs::Numbered::no_smaller))]
     fn from_field(field: &[u8]) -> Option<u32> {
         let number = u64::from_field(field)?;
         u32::try_from(number).ok()
@@ -42,6 +43,7 @@ impl FromField for u32 {
 impl FromField for u16 {
     ghost reads = { word };
 
+    #[tactic(auto, using(crate::proofs::Numbered::smaller, crate::proofs::Numbered::no_smaller))]
     fn from_field(field: &[u8]) -> Option<u16> {
         let number = u64::from_field(field)?;
         u16::try_from(number).ok()
@@ -51,6 +53,7 @@ impl FromField for u16 {
 impl FromField for u8 {
     ghost reads = { byte };
 
+    #[tactic(auto, using(crate::proofs::Numbered::smaller, crate::proofs::Numbered::no_smaller))]
     fn from_field(field: &[u8]) -> Option<u8> {
         let number = u64::from_field(field)?;
         u8::try_from(number).ok()
